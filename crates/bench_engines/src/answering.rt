@@ -4,21 +4,21 @@ ghost use Rattle.ca_model.specs.Packets as packets;
 ghost use Rattle.ca_model.specs.machine.Delivery.{packet_arrived};
 ghost use Rattle.ca_model.specs.machine.Respond.{respond_row};
 ghost use Rattle.ca_model.specs.machine.CanStep.{CanStep};
-ghost use Rattle.ca_bed_reach.specs.SmallReach as small;
-ghost use Rattle.ca_bed_requester.specs.Bed as beds;
-ghost use Rattle.ca_bed_responder.specs.Responder as responders;
+ghost use Rattle.test_fixture_reach.specs.SmallReach as small;
+ghost use Rattle.test_fixture_requester.specs.Bed as beds;
+ghost use Rattle.test_fixture_responder.specs.Responder as responders;
 ghost use Rattle.ca_wire.specs.Packet.{IsWellFormed};
 
 use crate::work::{bring_up, new_bed, receive};
-use ca_bed_reach::SmallReach;
-use ca_bed_requester::{Bed, are_here, is_narrow};
-use ca_bed_responder::Responder;
 use ca_model::Marks;
+use ca_qp_rows::{Arrival, arrival_of};
 use ca_qpstate::QueuePart;
 use ca_responder::{next_response, on_request, request_asks, respond_ask};
-use ca_rows::{Arrival, arrival_of};
 use ca_wire::Packet;
 use std::alloc::Global;
+use test_fixture_reach::SmallReach;
+use test_fixture_requester::{Bed, are_here, is_narrow};
+use test_fixture_responder::Responder;
 
 /// A WRITE of eight bytes that asks for an acknowledgement, with this PSN.
 fn write(psn: u8) -> [u8; 36] {

@@ -2,22 +2,22 @@ ghost use Rattle.ca_grant.specs.Reaching.{AreAtHand};
 ghost use Rattle.ca_model.specs.Packets as packets;
 ghost use Rattle.ca_model.specs.machine.Invariants.{IsQueue};
 ghost use Rattle.ca_model.specs.machine.Responses.{response_row};
-ghost use Rattle.ca_sending.specs.Turn.{IsTurnFound, SendsFound, turn_row};
+ghost use Rattle.ca_requester_sends.specs.Turn.{IsTurnFound, SendsFound, turn_row};
 ghost use Rattle.ca_model.specs.machine.CanStep.{CanStep};
-ghost use Rattle.ca_bed_reach.specs.SmallReach as small;
-ghost use Rattle.ca_bed_requester.specs.Bed as beds;
+ghost use Rattle.test_fixture_reach.specs.SmallReach as small;
+ghost use Rattle.test_fixture_requester.specs.Bed as beds;
 ghost use Rattle.ca_wire.specs.Packet.{IsWellFormed};
 ghost use Rattle.std.specs.Prelude.{◌≡◌, IfSome, true};
 
 use crate::work::{Asked, bring_up, new_bed, request};
-use ca_bed_reach::SmallReach;
-use ca_bed_requester::{Bed, are_here, is_narrow};
 use ca_model::Marks;
+use ca_qp_rows::{Arrival, arrival_of};
 use ca_qpstate::QueuePart;
 use ca_requester::{Found, Turn, next_asks, next_packet, next_turn, on_response, response_asks};
-use ca_rows::{Arrival, arrival_of};
 use ca_wire::Packet;
 use std::alloc::Global;
+use test_fixture_reach::SmallReach;
+use test_fixture_requester::{Bed, are_here, is_narrow};
 
 // The requester sends its next packet.
 #[inline(never)]

@@ -1,5 +1,5 @@
 ghost use Rattle.std.specs.Prelude.{IfSome};
-ghost use Rattle.ca_bed_requester.specs.Bed as beds;
+ghost use Rattle.test_fixture_requester.specs.Bed as beds;
 
 use crate::answering::{answers, duplicates, sends};
 use crate::requesting::requests;
@@ -8,13 +8,13 @@ use ca_base::{
     AdapterConfig, Change, Config, DomainId, Key, Piece, QueueId, RecvRequest, Rights, Run, SendOp,
     SendRequest, Settings, Slot,
 };
-use ca_bed_reach::SmallReach;
-use ca_bed_requester::Bed;
 use ca_qpstate::QueuePart;
 use std::alloc::Global;
 use std::env;
 use std::process::ExitCode;
 use std::rt::Env;
+use test_fixture_reach::SmallReach;
+use test_fixture_requester::Bed;
 
 const DOMAIN: DomainId = DomainId {
     adapter: 0,

@@ -2,10 +2,10 @@ ghost use Rattle.ca_verbs.specs.Passes.{IsOf};
 
 use crate::clock::{now, since};
 use ca_base::WcStatus;
-use ca_bed_fabric::{Step, answer, try_step};
 use ca_model::Answer;
 use ca_verbs::{Fabric, Pass};
 use std::time::Clock;
+use test_fixture_fabric::{Step, answer, try_step};
 
 /// The steps of a round, of which those of one kind, or none, are counted.
 #[derive(Clone, Copy)]

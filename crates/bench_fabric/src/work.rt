@@ -5,7 +5,6 @@ use crate::rounds::{Round, counted_rounds, make_all};
 use crate::size::{Size, config};
 use crate::threads::{Load, work_four, work_one, work_two};
 use crate::writes::{round_of, set_up_of};
-use ca_bed_fabric::Step;
 use ca_model::Entry;
 use ca_verbs::{Fabric, Pass};
 use std::alloc::Global;
@@ -14,6 +13,7 @@ use std::rt::Env;
 use std::thread::Threads;
 use std::time::Clock;
 use std::{env, io};
+use test_fixture_fabric::Step;
 
 /// What is done: so many rounds of all threads, of which the steps of one kind are counted by themselves, on one thread, or
 /// none are.

@@ -1,10 +1,10 @@
 use crate::size::{BUFFER, Size, slot};
 use arrayvec::ArrayVec;
 use ca_base::{Key, Piece, QueueId, SendOp, SendRequest, Slot, first_address};
-use ca_bed_fabric::{Step, add_queue_pair, add_region};
 use ca_model::Verb;
-use ca_places::Turn;
+use ca_model_places::Turn;
 use std::alloc::Global;
+use test_fixture_fabric::{Step, add_queue_pair, add_region};
 
 /// The low byte of the key of a slot's first region.
 const FIRST_LOW: u8 = 1;

@@ -1,6 +1,6 @@
 use ca_base::{AdapterConfig, Lot, Memory};
 use ca_script::{Line, Script, Weather, WeatherLine, What};
-use ca_trace_words::print_call;
+use ca_trace_print::print_call;
 use std::alloc::Global;
 use std::io;
 

@@ -1,8 +1,8 @@
 use crate::escape::bytes_of;
 use crate::print::{print_consumers, print_setup};
-use ca_made::generate;
 use ca_outside::{StdSource, read_up_to};
 use ca_script::{Script, ScriptError, read_script};
+use ca_script_seed::generate;
 use std::alloc::Global;
 use std::process::ExitCode;
 use std::rt::Env;

@@ -1,7 +1,7 @@
 use crate::entries::entry_of;
 use ca_model::History;
-use ca_reading::read;
 use ca_trace::print_history;
+use ca_trace_read::read;
 use std::alloc::Global;
 use std::fmt::{self, Write};
 use std::process::ExitCode;

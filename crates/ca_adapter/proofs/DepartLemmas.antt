@@ -14,8 +14,8 @@ use Rattle.ca_law_parts.proofs.Room.FitLemmas.{IsPresent, present, receives-few,
 use Rattle.ca_law_parts.proofs.Room.FreedLemmas.{taken-once}
 use Rattle.ca_law_parts.proofs.Room.RoomLists.{all-map, ascend-filter, still-in}
 use Rattle.ca_law_parts.specs.Room.{AreDistinct, AreHeld, is_in, places_kept, taken_in}
-use Rattle.ca_acts_pairs.specs.Departures.{AreFew, CanDepart, StandOnce, places_of}
-use Rattle.ca_acts_pairs.specs.Names.{names_around}
+use Rattle.ca_adapter_pairs.specs.Departures.{AreFew, CanDepart, StandOnce, places_of}
+use Rattle.ca_adapter_pairs.specs.Names.{names_around}
 use Rattle.ca_law_parts.specs.Worlds.{IsWorldAfter}
 
 -- places of which none stands twice, each among those that were taken, which ascend, stand there once, one after another

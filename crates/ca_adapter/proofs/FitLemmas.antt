@@ -2,11 +2,11 @@
 use Rattle.std.proofs.Common.{◌≡◌, ◌∙◌, refl, sym, ap, subst, ℕ, true, false, List, ◌∷◌, Option, None, Some, IfSome}
 use Rattle.std.specs.List.{AllByRecursion}
 use Rattle.std.specs.Option.{option_map}
-use Rattle.ca_acts_queues.specs.ca_acts.Room.{FitIn}
-use Rattle.ca_acts_queues.proofs.ReceiveLemmas.{recv_ends}
-use Rattle.ca_acts_queues.proofs.SendLemmas.{send_end, send_ends}
-use Rattle.ca_acts_queues.specs.Drawing.{byte_for, is_no_window, window_of_bind}
-use Rattle.ca_acts_queues.specs.Posting.{FitsReceive, FitsSend, with_receive}
+use Rattle.ca_adapter_acts.specs.Room.{FitIn}
+use Rattle.ca_adapter_posts.proofs.ReceiveLemmas.{recv_ends}
+use Rattle.ca_adapter_posts.proofs.SendLemmas.{send_end, send_ends}
+use Rattle.ca_adapter_posts.specs.Drawing.{byte_for, is_no_window, window_of_bind}
+use Rattle.ca_adapter_posts.specs.Posting.{FitsReceive, FitsSend, with_receive}
 use Rattle.ca_adapter.proofs.ReadyLemmas.{needs_held, verb_named}
 use Rattle.ca_adapter.specs.Ready.{ArePartsOfWorld, IsReady}
 use Rattle.ca_base.specs.Configuration.{Configuration}
@@ -17,8 +17,8 @@ use Rattle.ca_base.specs.declared.request.SendOp.TheVariants as ops
 use Rattle.ca_base.specs.declared.request.SendRequest.{SendRequest}
 use Rattle.ca_base.specs.objects.CompletionQueue.{CompletionQueue, after_puts}
 use Rattle.ca_base.specs.objects.QueuePair.{NoQueue, Present, QueuePair, QueueSlot, queue_in, recv_cq_of, send_cq_of}
-use Rattle.ca_held.specs.declared.held.Held.{Held}
-use Rattle.ca_held.specs.HeldView.{holding}
+use Rattle.ca_adapter_parts.specs.declared.held.Held.{Held}
+use Rattle.ca_adapter_parts.specs.HeldView.{holding}
 use Rattle.ca_keys.specs.declared.names.Slot.{Slot}
 use Rattle.ca_keys.specs.Numbers.{queue_of}
 use Rattle.ca_keys.specs.Refusals.{first_of}

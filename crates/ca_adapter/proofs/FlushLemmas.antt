@@ -30,8 +30,8 @@ use Rattle.ca_model.specs.machine.QueuePairVerbs.{modify_qp_plan}
 use Rattle.ca_model.specs.machine.Step.{step}
 use Rattle.ca_model.specs.machine.VerbAnswers.{Answer_plan, Call, Refuse_plan, Unless_plan, answer_mark, of_change_refusals}
 use Rattle.ca_model.specs.machine.World.{Cq_of, Queue_of, World}
-use Rattle.ca_acts.specs.Room.{FitIn}
-use Rattle.ca_acts_pairs.specs.Changed.{CanChange}
+use Rattle.ca_adapter_acts.specs.Room.{FitIn}
+use Rattle.ca_adapter_pairs.specs.Changed.{CanChange}
 use Rattle.ca_law_parts.proofs.Room.EventRoomLemmas.{together-fit}
 use Rattle.ca_law_parts.specs.Worlds.{IsWorldAfter}
 use Rattle.ca_adapter.proofs.DepartLemmas.{can-depart}

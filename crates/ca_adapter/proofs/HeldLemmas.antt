@@ -16,12 +16,12 @@ use Rattle.ca_model.specs.machine.VerbAnswers.{Call}
 use Rattle.ca_model.specs.machine.World.{Cq_of, Queue_of, Srq_of, World}
 use Rattle.ca_model.specs.machine.Around.{completions_to}
 use Rattle.ca_model.specs.machine.Completions.{flush_marks}
-use Rattle.ca_acts_pairs.specs.ca_held.HeldView.{Holding}
-use Rattle.ca_acts.specs.Room.{FitIn}
-use Rattle.ca_acts.specs.Steps.{Shows}
-use Rattle.ca_acts_pairs.specs.Changed.{CanChange}
-use Rattle.ca_acts_pairs.specs.Departures.{AreFew, CanDepart, StandOnce, places_left, places_of}
-use Rattle.ca_acts_pairs.specs.Names.{names_around}
+use Rattle.ca_adapter_parts.specs.HeldView.{Holding}
+use Rattle.ca_adapter_acts.specs.Room.{FitIn}
+use Rattle.ca_adapter_acts.specs.Steps.{Shows}
+use Rattle.ca_adapter_pairs.specs.Changed.{CanChange}
+use Rattle.ca_adapter_pairs.specs.Departures.{AreFew, CanDepart, StandOnce, places_left, places_of}
+use Rattle.ca_adapter_pairs.specs.Names.{names_around}
 use Rattle.ca_law_parts.specs.Worlds.{IsWorldAfter}
 use Rattle.ca_adapter.proofs.DepartLemmas.{can-depart}
 use Rattle.ca_adapter.proofs.FlushLemmas.{can-change}

@@ -1,7 +1,7 @@
 -- What a poll asks of the parts in hand, from what its caller shows of them. For proofs only.
 use Rattle.std.proofs.Common.{◌≡◌, refl, sym, ℕ, suc, ◌<◌, ◌^◌, Bool, true, false, List, [], ◌∷◌, Option, None, Some, IfSome, is_some, if◌then◌else◌, true≢false}
 use Rattle.std.specs.List.{AllByRecursion}
-use Rattle.ca_acts_polls.specs.Polling.{AreApart, AreOfOwnPlaces, CanFreeEach, CanFreeOf, CanRetire, IsApart, shared_at}
+use Rattle.ca_adapter_polls.specs.Polling.{AreApart, AreOfOwnPlaces, CanFreeEach, CanFreeOf, CanRetire, IsApart, shared_at}
 use Rattle.ca_adapter.proofs.WorldLemmas.{cq-is, queue-is, srq-is}
 use Rattle.ca_adapter.specs.Ready.{ArePartsOfWorld, IsReady}
 use Rattle.ca_base.specs.Configuration.{Configuration}
@@ -11,8 +11,8 @@ use Rattle.ca_base.specs.objects.CompletionQueue.{CompletionQueue, source_in}
 use Rattle.ca_base.specs.objects.QueuePair.{NoQueue, Present, QueueSlot, queue_in}
 use Rattle.ca_base.specs.objects.SharedReceives.{SharedReceives}
 use Rattle.ca_base.specs.objects.WorkQueue.{WorkQueue}
-use Rattle.ca_held.specs.declared.held.Held.{Held}
-use Rattle.ca_held.specs.HeldView.{holding}
+use Rattle.ca_adapter_parts.specs.declared.held.Held.{Held}
+use Rattle.ca_adapter_parts.specs.HeldView.{holding}
 use Rattle.ca_keys.specs.declared.names.QueueId.{QueueId}
 use Rattle.ca_keys.specs.declared.names.Slot.{Slot}
 use Rattle.ca_law_parts.proofs.Numbers.LimitLemmas.{places-free}

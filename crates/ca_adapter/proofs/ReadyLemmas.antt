@@ -3,15 +3,15 @@ use Rattle.std.proofs.Common.{Result, ◌≡◌, ◌∙◌, refl, sym, ap, subst
 use Rattle.std.proofs.lemmas.Bool.{and_parts, ltb-true}
 use Rattle.std.specs.List.{AllByRecursion}
 use Rattle.std.specs.Option.{option_map, option_map_or}
-use Rattle.ca_acts_queues.specs.ca_acts.Act.{Acts, Suffices}
-use Rattle.ca_acts.proofs.StepLemmas.{act-steps}
-use Rattle.ca_acts.specs.Steps.{IsStepOf, Shows}
-use Rattle.ca_acts_pairs.specs.Changed.{CanChange}
-use Rattle.ca_acts_pairs.specs.Departures.{CanDepart}
-use Rattle.ca_acts_creation.specs.Made.{shared_slot}
-use Rattle.ca_acts_pairs.specs.Names.{names_around}
-use Rattle.ca_acts_queues.specs.Drawing.{window_of_bind}
-use Rattle.ca_acts_queues.specs.Posting.{CanPostReceive, CanPostSend}
+use Rattle.ca_adapter_acts.specs.Act.{Acts, Suffices}
+use Rattle.ca_adapter_acts.proofs.StepLemmas.{act-steps}
+use Rattle.ca_adapter_acts.specs.Steps.{IsStepOf, Shows}
+use Rattle.ca_adapter_pairs.specs.Changed.{CanChange}
+use Rattle.ca_adapter_pairs.specs.Departures.{CanDepart}
+use Rattle.ca_adapter_creation.specs.Made.{shared_slot}
+use Rattle.ca_adapter_pairs.specs.Names.{names_around}
+use Rattle.ca_adapter_posts.specs.Drawing.{window_of_bind}
+use Rattle.ca_adapter_posts.specs.Posting.{CanPostReceive, CanPostSend}
 use Rattle.ca_adapter.proofs.WorldLemmas.{cq-is, has-thing, queue-is, shown, sound-thing, within}
 use Rattle.ca_adapter.specs.Ready.{ArePartsOfWorld, IsReady}
 use Rattle.ca_base.specs.Configuration.{Adapter, Configuration}
@@ -27,8 +27,8 @@ use Rattle.ca_base.specs.objects.QueuePair.{NoQueue, Present, QueueSlot, incarna
 use Rattle.ca_base.specs.objects.Slices.{adapter_at, has_domain, has_slot}
 use Rattle.ca_base.specs.objects.Window.{Binding, Window}
 use Rattle.ca_cq.specs.Room.{is_new_side}
-use Rattle.ca_held.specs.declared.held.Held.{Held}
-use Rattle.ca_held.specs.HeldView.{holding}
+use Rattle.ca_adapter_parts.specs.declared.held.Held.{Held}
+use Rattle.ca_adapter_parts.specs.HeldView.{holding}
 use Rattle.ca_keys.specs.declared.names.DomainId.{DomainId}
 use Rattle.ca_keys.specs.declared.names.QueueId.{QueueId}
 use Rattle.ca_keys.specs.declared.names.Slot.{Slot}
@@ -38,8 +38,8 @@ use Rattle.ca_law_parts.specs.Placed.{IsConfigured}
 use Rattle.ca_law_parts.specs.Raised.{IsThingWithin}
 use Rattle.ca_law_parts.proofs.Numbers.LimitLemmas.{can-step, own-places, shared-places, slot-incarnation}
 use Rattle.ca_adapter.proofs.HeldLemmas.{destroy-departs, modify-changes}
-use Rattle.ca_acts_arrivals.proofs.of_ca_law_parts.Parts.EventPartLemmas.{event-held}
-use Rattle.ca_acts_arrivals.proofs.of_ca_law_parts.Parts.NeedsLemmas.{next-same, none-held}
+use Rattle.ca_adapter_arrivals.proofs.of_ca_law_parts.Parts.EventPartLemmas.{event-held}
+use Rattle.ca_adapter_arrivals.proofs.of_ca_law_parts.Parts.NeedsLemmas.{next-same, none-held}
 use Rattle.ca_law_parts.proofs.Room.FitLemmas.{vacant-new}
 use Rattle.ca_law_parts.proofs.of_ca_law_world.Windows.BindingLemmas.{counted-binding}
 use Rattle.ca_model.proofs.FrameLemmas.{event-touches-same}
@@ -62,7 +62,7 @@ use Rattle.ca_model.specs.machine.Sound.{CanBeMade, IsLimitedAdapter, IsQueueOf}
 use Rattle.ca_model.specs.machine.Step.{has_named_slot, is_named, plan, step, verb_plan}
 use Rattle.ca_model.specs.machine.VerbAnswers.{Call, answer_mark}
 use Rattle.ca_model.specs.machine.World.{World, Name, Domain_of, Region_of, Window_of, Srq_of, Queue_of}
-use Rattle.ca_needs.proofs.ReadyLemmas as slots
+use Rattle.ca_adapter_footprint.proofs.ReadyLemmas as slots
 
 -- ---- what is in hand suffices
 

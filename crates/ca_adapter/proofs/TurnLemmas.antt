@@ -1,8 +1,8 @@
 -- What the act of a turn asks of the parts in hand, from what its caller shows of them. For proofs only.
 use Rattle.std.proofs.Common.{◌≡◌, ◌∙◌, refl, sym, ap, subst, suc, ◌<◌, ◌-◌, ◌^◌, arith, ℕ, Bool, true, false, List, Option, None, Some, IfSome, IsTrue, is_some, true≢false}
-use Rattle.ca_acts_queues.specs.ca_acts.Act.{Suffices}
-use Rattle.ca_acts_queues.specs.ca_acts.Room.{FitsDone}
-use Rattle.ca_acts_arrivals.specs.ca_acts_turns.Shown.{AreShown}
+use Rattle.ca_adapter_acts.specs.Act.{Suffices}
+use Rattle.ca_adapter_acts.specs.Room.{FitsDone}
+use Rattle.ca_adapter_arrivals.specs.ca_adapter_turns.Shown.{AreShown}
 use Rattle.ca_adapter.proofs.ReadyLemmas.{queues_can_step, ready-suffices, verb_named}
 use Rattle.ca_adapter.proofs.WorldLemmas.{shown, sound-thing, vacant-there, within}
 use Rattle.ca_adapter.specs.Ready.{ArePartsOfWorld, IsReady}
@@ -10,8 +10,8 @@ use Rattle.ca_base.specs.Configuration.{Configuration}
 use Rattle.ca_base.specs.objects.CompletionQueue.{CompletionQueue}
 use Rattle.ca_base.specs.objects.Mailbox.{bytes_lent}
 use Rattle.ca_base.specs.objects.QueuePair.{NoQueue, Present, QueueSlot, queue_in}
-use Rattle.ca_held.specs.declared.held.Held.{Held}
-use Rattle.ca_held.specs.HeldView.{holding}
+use Rattle.ca_adapter_parts.specs.declared.held.Held.{Held}
+use Rattle.ca_adapter_parts.specs.HeldView.{holding}
 use Rattle.ca_keys.specs.declared.names.QueueId.{QueueId}
 use Rattle.ca_keys.specs.declared.names.Slot.{Slot}
 use Rattle.ca_law_parts.proofs.Numbers.LimitLemmas.{lent-countable}

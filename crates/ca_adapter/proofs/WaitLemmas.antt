@@ -22,8 +22,8 @@ use Rattle.ca_model.specs.machine.Requester.{Performs, RequestTurn, Sends, Waits
 use Rattle.ca_model.specs.machine.Row.{NotPossible, Row_plan, plain_row}
 use Rattle.ca_model.specs.machine.Turns.{Leave_plan, Request_around, has_room_for, request_plan}
 use Rattle.ca_model.specs.machine.World.{World}
-use Rattle.ca_acts_local.specs.ca_sending.Turn.{IsWaiting, is_performing, turn_row}
-use Rattle.ca_acts_local.proofs.of_ca_acts_turns.TimerLemmas.{not-sending}
+use Rattle.ca_adapter_local.specs.ca_requester_sends.Turn.{IsWaiting, is_performing, turn_row}
+use Rattle.ca_adapter_local.proofs.of_ca_adapter_turns.TimerLemmas.{not-sending}
 
 -- a packet is sent in Rts and Sqd alone
 abbrev is_packet : RequestTurn → Bool

@@ -1,7 +1,7 @@
 -- The small world of parts in hand that are those of a world which comes up. For proofs only.
 use Rattle.std.proofs.Common.{◌≡◌, refl, sym, ap, subst, ℕ, arith, nat_lt, Bool, true, false, List, length, Option, None, Some, is_some, true≢false}
 use Rattle.std.specs.Option.{option_map, option_map_or}
-use Rattle.ca_acts.specs.Steps.{Shows}
+use Rattle.ca_adapter_acts.specs.Steps.{Shows}
 use Rattle.ca_base.specs.Configuration.{Configuration}
 use Rattle.ca_base.specs.objects.Domain.{free_domain}
 use Rattle.ca_base.specs.objects.Mailbox.{empty_mailbox}
@@ -10,23 +10,23 @@ use Rattle.ca_base.specs.objects.QueuePair.{QueueSlot, vacant_queue}
 use Rattle.ca_base.specs.objects.Region.{vacant_region}
 use Rattle.ca_base.specs.objects.SharedReceives.{SrqSlot, vacant_srq}
 use Rattle.ca_base.specs.objects.Window.{vacant_window}
-use Rattle.ca_held.specs.declared.held.Held.{Held}
-use Rattle.ca_held.specs.HeldView.{holding}
-use Rattle.ca_held.specs.Parts.{slot_of}
+use Rattle.ca_adapter_parts.specs.declared.held.Held.{Held}
+use Rattle.ca_adapter_parts.specs.HeldView.{holding}
+use Rattle.ca_adapter_parts.specs.Parts.{slot_of}
 use Rattle.ca_keys.specs.declared.names.QueueId.{QueueId}
 use Rattle.ca_keys.specs.declared.names.Slot.{Slot}
 use Rattle.ca_model.specs.declared.part_name.PartName.TheVariants as names
 use Rattle.ca_keys.specs.Equal.{domain_eq, queue_eq, slot_eq}
-use Rattle.ca_held_reach.specs.Names.{buffer_eq, buffer_of}
-use Rattle.ca_held_reach.specs.Seen.{or_vacant}
+use Rattle.ca_adapter_reach.specs.Names.{buffer_eq, buffer_of}
+use Rattle.ca_adapter_reach.specs.Seen.{or_vacant}
 use Rattle.ca_law_parts.specs.Placed.{is_configured}
 use Rattle.ca_law_parts.specs.Raised.{IsThingWithin, IsWorldWithin}
 use Rattle.ca_memory.specs.Buffer.{memory_of}
 use Rattle.ca_model.specs.machine.Parts.{ShowsHeld, part_of}
 use Rattle.ca_model.specs.machine.Sound.{IsSoundThing}
 use Rattle.ca_model.specs.machine.World.{World, Name, Domain_of, Region_of, Window_of, Cq_of, Srq_of, Queue_of, Mailbox_of, Byte_at, Thing, get, opening_world}
-use Rattle.ca_held.proofs.of_ca_law_world.Sound.SoundLemmas.{opening-sound}
-use Rattle.ca_held_reach.specs.Shelved.{thing_under}
+use Rattle.ca_adapter_parts.proofs.of_ca_law_world.Sound.SoundLemmas.{opening-sound}
+use Rattle.ca_adapter_reach.specs.Shelved.{thing_under}
 use Rattle.ca_adapter.specs.Ready.{ArePartsOfWorld}
 
 -- the world in which nothing stands

@@ -1,6 +1,6 @@
 pub mod Ready
 -- The libraries below, handed on to those above.
 pub use Rattle.ca_law_parts.specs as ca_law_parts
-pub use Rattle.ca_needs.specs.ca_sending
-pub use Rattle.ca_acts.specs as ca_acts
-pub use Rattle.ca_acts_pairs.specs as ca_acts_pairs
+pub use Rattle.ca_adapter_footprint.specs.ca_requester_sends
+pub use Rattle.ca_adapter_acts.specs as ca_adapter_acts
+pub use Rattle.ca_adapter_pairs.specs as ca_adapter_pairs

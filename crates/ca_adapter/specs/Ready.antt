@@ -1,12 +1,12 @@
 -- What whoever acts shows of the parts in hand: they are those of a world that comes up, and they suffice for the event.
 -- Contracts cite it.
 use Rattle.std.specs.Prelude.{◌≡◌, ℕ, true, List, length, None}
-use Rattle.ca_acts_queues.specs.ca_acts.Calls.{call_of}
-use Rattle.ca_acts_queues.specs.ca_acts.declared.answers.Call.{Call}
+use Rattle.ca_adapter_acts.specs.Calls.{call_of}
+use Rattle.ca_adapter_acts.specs.declared.answers.Call.{Call}
 use Rattle.ca_base.specs.Configuration.{Configuration, configuration_in}
 use Rattle.ca_base.specs.declared.settings.Settings.{Settings}
-use Rattle.ca_held.specs.declared.held.Held.{Held}
-use Rattle.ca_held.specs.HeldView.{holding}
+use Rattle.ca_adapter_parts.specs.declared.held.Held.{Held}
+use Rattle.ca_adapter_parts.specs.HeldView.{holding}
 use Rattle.ca_keys.specs.declared.place.Place.{Place}
 use Rattle.ca_law_parts.specs.Placed.{is_configured}
 use Rattle.ca_model.specs.declared.event.Event.{Event}

@@ -1,8 +1,8 @@
-ghost use Rattle.ca_acts_queues.specs.ca_acts.Act.{Acts};
-ghost use Rattle.ca_acts.specs.Steps.{IsStepOf, Shows};
+ghost use Rattle.ca_adapter_acts.specs.Act.{Acts};
+ghost use Rattle.ca_adapter_acts.specs.Steps.{IsStepOf, Shows};
 ghost use Rattle.ca_adapter.specs.Ready.{IsReady};
 ghost use Rattle.ca_base.specs.Configuration.{configuration_in};
-ghost use Rattle.ca_held.specs.HeldView.{holding};
+ghost use Rattle.ca_adapter_parts.specs.HeldView.{holding};
 ghost use Rattle.ca_model.specs.declared.event.Event.TheVariants as events;
 ghost use Rattle.ca_model.specs.machine.Step as machine;
 ghost use Rattle.ca_model.specs.machine.World.{World};
@@ -10,13 +10,13 @@ ghost use Rattle.ca_model.specs.machine.World.{World};
 use crate::lists::verb_fits;
 use crate::request;
 use crate::verbs::act_verb;
-use ca_acts_arrivals::ca_acts_turns::{respond, rnr_wake, timeout};
-use ca_acts_arrivals::deliver;
-use ca_acts_queues::ca_acts::Call;
+use ca_adapter_acts::Call;
+use ca_adapter_arrivals::ca_adapter_turns::{respond, rnr_wake, timeout};
+use ca_adapter_arrivals::deliver;
+use ca_adapter_footprint::is_named;
+use ca_adapter_parts::Held;
 use ca_base::{Settings, StepError};
-use ca_held::Held;
 use ca_model::{Event, Marks, Refusal, Verb};
-use ca_needs::is_named;
 use std::alloc::Global;
 
 /// Acts an event. A verb answers `NoSuch` where one of its names is not configured; else the answer is what the act of the

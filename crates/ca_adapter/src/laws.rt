@@ -10,11 +10,11 @@ ghost use Rattle.ca_model.specs.machine.Plan.{touches};
 ghost use Rattle.ca_model.specs.machine.QueuePairVerbs.{destroy_qp_plan, modify_qp_plan};
 ghost use Rattle.ca_model.specs.machine.VerbAnswers.{Call};
 ghost use Rattle.ca_model.specs.machine.World.{World};
-ghost use Rattle.ca_acts_pairs.specs.ca_held.HeldView.{Holding};
-ghost use Rattle.ca_acts.specs.Steps.{Shows};
-ghost use Rattle.ca_acts_pairs.specs.Changed.{CanChange};
-ghost use Rattle.ca_acts_pairs.specs.Departures.{CanDepart};
-ghost use Rattle.ca_acts_pairs.specs.Names.{names_around};
+ghost use Rattle.ca_adapter_parts.specs.HeldView.{Holding};
+ghost use Rattle.ca_adapter_acts.specs.Steps.{Shows};
+ghost use Rattle.ca_adapter_pairs.specs.Changed.{CanChange};
+ghost use Rattle.ca_adapter_pairs.specs.Departures.{CanDepart};
+ghost use Rattle.ca_adapter_pairs.specs.Names.{names_around};
 ghost use Rattle.ca_law_parts.specs.Worlds.{IsWorldAfter};
 
 /// In a world that comes up a queue pair can leave what stands around it. Few of its receives wait in its completion

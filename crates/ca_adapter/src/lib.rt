@@ -31,10 +31,10 @@ mod lists;
 mod requesting;
 mod verbs;
 
-pub use ca_acts_pairs;
-pub use ca_acts_queues::ca_rows;
-pub use ca_needs;
-pub use ca_needs::ca_sending;
+pub use ca_adapter_footprint;
+pub use ca_adapter_footprint::ca_requester_sends;
+pub use ca_adapter_pairs;
+pub use ca_adapter_posts::ca_qp_rows;
 pub use events::act;
 pub use laws::{
     held_queue_pairs_can_change, held_queue_pairs_can_depart, queue_pairs_can_change,

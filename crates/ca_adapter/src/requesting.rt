@@ -1,20 +1,20 @@
 ghost use Rattle.std.specs.Prelude.{◌≡◌, ◌<◌, ◌^◌, suc, IfSome};
-ghost use Rattle.ca_acts_local.specs.ca_acts.Act.{Acts, Suffices};
-ghost use Rattle.ca_acts_local.specs.ca_acts.Room.{FitsDone};
-ghost use Rattle.ca_acts_local.specs.ca_acts_turns.Shown.{AreShown};
+ghost use Rattle.ca_adapter_acts.specs.Act.{Acts, Suffices};
+ghost use Rattle.ca_adapter_acts.specs.Room.{FitsDone};
+ghost use Rattle.ca_adapter_local.specs.ca_adapter_turns.Shown.{AreShown};
 ghost use Rattle.ca_base.specs.Configuration.{configuration_in};
 ghost use Rattle.ca_base.specs.objects.QueuePair.{queue_in};
-ghost use Rattle.ca_acts_local.specs.ca_held.HeldView.{holding};
+ghost use Rattle.ca_adapter_parts.specs.HeldView.{holding};
 ghost use Rattle.ca_keys.specs.declared.names.QueueId.{QueueId};
 ghost use Rattle.ca_keys.specs.declared.names.Slot.{Slot};
 ghost use Rattle.ca_model.specs.machine.CanStep.{CanStep};
 ghost use Rattle.ca_model.specs.machine.Plan as plans;
 ghost use Rattle.ca_model.specs.machine.Turns.{request_plan};
 
-use ca_acts_local::ca_acts_turns::send_packet;
-use ca_acts_local::ca_held::{Held, QueueSlot};
-use ca_acts_local::ca_requester::{Turn, next_turn};
-use ca_acts_local::perform;
+use ca_adapter_local::ca_adapter_turns::send_packet;
+use ca_adapter_local::ca_requester::{Turn, next_turn};
+use ca_adapter_local::perform;
+use ca_adapter_parts::{Held, QueueSlot};
 use ca_base::{Lot, QueueId, Reason, Settings, StepError};
 use ca_model::Marks;
 use std::alloc::Global;

@@ -1,24 +1,24 @@
 ghost use Rattle.std.specs.Prelude.{◌≡◌, true};
-ghost use Rattle.ca_acts_queues.specs.ca_acts.Act.{Acts, Suffices};
-ghost use Rattle.ca_acts_queues.specs.ca_acts.Calls.{call_of};
+ghost use Rattle.ca_adapter_acts.specs.Act.{Acts, Suffices};
+ghost use Rattle.ca_adapter_acts.specs.Calls.{call_of};
 ghost use Rattle.ca_adapter.specs.Ready.{IsReady, stored_plan};
 ghost use Rattle.ca_base.specs.Configuration.{configuration_in};
 ghost use Rattle.ca_model.specs.declared.event.Event.TheVariants as events;
 ghost use Rattle.ca_model.specs.machine.Sound.{CanBeMade};
 ghost use Rattle.ca_model.specs.machine.Step as machine;
 
-use ca_acts_arrivals::inject;
-use ca_acts_creation::{Creation, create_qp};
-use ca_acts_objects::{
+use ca_adapter_acts::Call;
+use ca_adapter_arrivals::inject;
+use ca_adapter_creation::{Creation, create_qp};
+use ca_adapter_objects::{
     alloc_mr, alloc_mw, alloc_pd, create_cq, create_srq, dealloc_mw, dealloc_pd, dereg_mr,
     destroy_cq, destroy_srq, load, reg_mr, store,
 };
-use ca_acts_pairs::{destroy_qp, modify_qp, query_qp};
-use ca_acts_polls::poll;
-use ca_acts_queues::ca_acts::Call;
-use ca_acts_queues::{post_recv, post_send, post_srq};
+use ca_adapter_pairs::{destroy_qp, modify_qp, query_qp};
+use ca_adapter_parts::Held;
+use ca_adapter_polls::poll;
+use ca_adapter_posts::{post_recv, post_send, post_srq};
 use ca_base::{Bytes, Field, Place, Run, Settings, StepError};
-use ca_held::Held;
 use ca_model::{Marks, Refusal, Verb};
 
 /// A verb whose names are configured: the act of each.

@@ -6,4 +6,4 @@ pub mod VisitLemmas
 pub mod OfferedLemmas
 pub mod LoopLemmas
 -- The libraries below, handed on to those above.
-pub use Rattle.ca_order.proofs as of_ca_order
+pub use Rattle.ca_script_order.proofs as of_ca_script_order

@@ -11,10 +11,10 @@ use Rattle.ca_engine.specs.declared.offer.Offer.{Offer}
 use Rattle.ca_engine.specs.declared.outcome.Outcome.TheVariants as outcomes
 use Rattle.ca_engine.specs.declared.pass.Pass.{Pass}
 use Rattle.ca_engine.specs.declared.pass.Pass.TheVariants as passes
-use Rattle.ca_order.specs.Visits.{Visit, Consumer, Engine, round_of, timer_pass_of}
-use Rattle.ca_order.specs.Order.{HasNoMoreLines, Stage, and_again, at_round, ending, ending_from, after_first, has_no_event_left, most_rounds, opening_stage, or_else, after_pass, after_rounds, after_visit, after_round}
-use Rattle.ca_order.proofs.EndLemmas.{Ended, StillAll, chances, most-end}
-use Rattle.ca_order.specs.ca_script.Script.{ScriptValue}
+use Rattle.ca_script_order.specs.Visits.{Visit, Consumer, Engine, round_of, timer_pass_of}
+use Rattle.ca_script_order.specs.Order.{HasNoMoreLines, Stage, and_again, at_round, ending, ending_from, after_first, has_no_event_left, most_rounds, opening_stage, or_else, after_pass, after_rounds, after_visit, after_round}
+use Rattle.ca_script_order.proofs.EndLemmas.{Ended, StillAll, chances, most-end}
+use Rattle.ca_script_order.specs.ca_script.Script.{ScriptValue}
 use Rattle.ca_engine.specs.Loop.{Work, has_ended, is_at_end, most_offers, opening_work, outcome_of_nothing, work_after, work_after_all, work_after_visit, work_from, is_quiet_offer}
 use Rattle.ca_engine.proofs.OfferedLemmas.{no-timers, offer_for, round-offered, timer-pass-offered}
 use Rattle.ca_engine.proofs.VisitLemmas.{Comes, at, comes-visit, fewer-chances}

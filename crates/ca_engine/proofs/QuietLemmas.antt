@@ -7,7 +7,7 @@ use Rattle.std.proofs.lemmas.List.Elements.{All-from_recursion}
 use Rattle.std.proofs.lemmas.Bool.Decides.{nat_tests}
 use Rattle.ca_base.specs.Configuration.{Configuration}
 use Rattle.ca_keys.specs.declared.names.QueueId.{QueueId}
-use Rattle.ca_order.specs.Visits.{all_queues, numbers_below}
+use Rattle.ca_script_order.specs.Visits.{all_queues, numbers_below}
 use Rattle.ca_engine.specs.Offers.{offers_of_round, offers_of_timers, timers_of_queue, turns_of_queue}
 use Rattle.ca_engine.specs.Engine.{EngineValue, at_next, at_round, at_timers, clock_after, engine_after, engine_after_all, is_consumer, is_still, offer_of, opening_engine, with_outcome}
 use Rattle.ca_engine.specs.Quiet.{AllNotReady, IsNotReadyAt, Telling, tellings}

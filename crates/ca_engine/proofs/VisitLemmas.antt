@@ -5,14 +5,14 @@ use Rattle.ca_model.specs.declared.event.Event.{Event}
 use Rattle.ca_model.specs.declared.event.Event.TheVariants as events
 use Rattle.ca_model.specs.machine.Plan.{Outcome, NotReady, Did}
 use Rattle.ca_model.specs.machine.Step.{step}
-use Rattle.ca_order.specs.ca_script.Script.{ScriptValue}
-use Rattle.ca_order.specs.ca_script_lines.declared.Line.{Line}
-use Rattle.ca_order.specs.ca_script_lines.declared.what.What.{What}
-use Rattle.ca_order.specs.ca_script_lines.declared.what.What.TheVariants as whats
-use Rattle.ca_order.specs.ca_places.Turns.{event_of}
-use Rattle.ca_order.specs.Visits.{Visit, Consumer, Engine}
-use Rattle.ca_order.proofs.EndLemmas.{Visited, chances, fewer-lines, lines_left, visit-visited}
-use Rattle.ca_order.specs.Order.{Stage, after_line, has_no_event_left, lines_of, after_event, after_visit, after_outcome, with_lines_left}
+use Rattle.ca_script_order.specs.ca_script.Script.{ScriptValue}
+use Rattle.ca_script_order.specs.ca_script_lines.declared.Line.{Line}
+use Rattle.ca_script_order.specs.ca_script_lines.declared.what.What.{What}
+use Rattle.ca_script_order.specs.ca_script_lines.declared.what.What.TheVariants as whats
+use Rattle.ca_script_order.specs.ca_model_places.Turns.{event_of}
+use Rattle.ca_script_order.specs.Visits.{Visit, Consumer, Engine}
+use Rattle.ca_script_order.proofs.EndLemmas.{Visited, chances, fewer-lines, lines_left, visit-visited}
+use Rattle.ca_script_order.specs.Order.{Stage, after_line, has_no_event_left, lines_of, after_event, after_visit, after_outcome, with_lines_left}
 
 -- a stage, where something happened before or not
 abbrev pub at : Bool → Stage → Stage

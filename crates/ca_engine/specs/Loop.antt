@@ -6,10 +6,10 @@ use Rattle.ca_engine.specs.declared.offer.Offer.{Offer}
 use Rattle.ca_engine.specs.declared.offer.Offer.TheVariants as offers
 use Rattle.ca_engine.specs.declared.outcome.Outcome.{Outcome}
 use Rattle.ca_engine.specs.declared.outcome.Outcome.TheVariants as outcomes
-use Rattle.ca_order.specs.Order.{Stage, at_round, has_no_event_left, lines_of, most_rounds, opening_stage, after_visit}
-use Rattle.ca_order.specs.Visits.{Visit, Consumer, Engine}
-use Rattle.ca_order.specs.ca_script.Script.{ScriptValue}
-use Rattle.ca_order.specs.ca_script_lines.declared.Line.{Line}
+use Rattle.ca_script_order.specs.Order.{Stage, at_round, has_no_event_left, lines_of, most_rounds, opening_stage, after_visit}
+use Rattle.ca_script_order.specs.Visits.{Visit, Consumer, Engine}
+use Rattle.ca_script_order.specs.ca_script.Script.{ScriptValue}
+use Rattle.ca_script_order.specs.ca_script_lines.declared.Line.{Line}
 
 -- an engine, and how far the script is worked
 pub record Work : Type 0 where

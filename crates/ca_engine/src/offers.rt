@@ -2,13 +2,13 @@ ghost use Rattle.std.specs.Prelude.{◌≡◌, ◌++◌, ◌<◌, map, IfOk, OnO
 ghost use Rattle.std.specs.List.{flat_map};
 ghost use Rattle.ca_base.specs.Configuration.{adapter_of, configuration_of};
 ghost use Rattle.ca_keys.specs.Numbers.{queue_of};
-ghost use Rattle.ca_order.specs.Visits.{all_queues, numbers_below, queues_of_adapter};
+ghost use Rattle.ca_script_order.specs.Visits.{all_queues, numbers_below, queues_of_adapter};
 ghost use Rattle.ca_engine.specs.Offers.{timers_of_queue, turns_of_queue};
 ghost use Rattle.ca_engine.specs.declared.offer.Offer.TheVariants as variants;
 
 use crate::offer::Offer;
 use ca_base::{AdapterConfig, Config, DomainId, Memory, QueueId, Slot};
-use ca_order::ca_places::Turn;
+use ca_script_order::ca_model_places::Turn;
 use std::alloc::Global;
 
 /// Adds the queue pairs of a domain with so many slots.

@@ -28,9 +28,9 @@ use Rattle.ca_law_once.proofs.Once.StepTolds.{ToldAfter}
 use Rattle.ca_law_once.specs.Connections.{direction_of}
 use Rattle.ca_law_once.specs.OnceTold.{IsTold}
 use Rattle.ca_law_once.proofs.Ties.FollowLemmas.{paths-follow}
-use Rattle.ca_law_calm.proofs.EventCalm.{event-calm, opening-calmly}
-use Rattle.ca_law_calm.specs.CalmEvents.{AreCalm, IsCalmEvent}
-use Rattle.ca_law_calm.specs.CalmTies.{CalmAfter, CursorGoesOn, IsCalmlyTied}
+use Rattle.ca_law_lossless.proofs.EventCalm.{event-calm, opening-calmly}
+use Rattle.ca_law_lossless.specs.CalmEvents.{AreCalm, IsCalmEvent}
+use Rattle.ca_law_lossless.specs.CalmTies.{CalmAfter, CursorGoesOn, IsCalmlyTied}
 use Rattle.ca_law_once.specs.Agrees.{AgreesWith, acted_by, written_by}
 
 -- ---- one connection

@@ -53,15 +53,15 @@ use Rattle.ca_model.specs.machine.Timers.{after_timeout, after_wake, wake_refusa
 use Rattle.ca_model.specs.machine.Turns.{Request_around, Respond_around, With_receives, has_room_for, packet_sent, reaches_peer, request_plan, respond_plan, sent_marks, timeout_plan, wake_plan}
 use Rattle.ca_model.specs.machine.VerbAnswers.{Call}
 use Rattle.ca_model.specs.machine.World.{Cq_of, Mailbox_of, Queue_of, World, opening_world, put}
-use Rattle.ca_law_calm.proofs.AddressLemmas.{packet-for, respond-for}
-use Rattle.ca_law_calm.proofs.RowCalm.{arrival-calm, flush-whole, operation-calm, packet-calm, respond-calm, timeout-calm, whole-append}
-use Rattle.ca_law_calm.specs.RowMail.{AreWholeDrops, IsFor, KeepsCalm, SendsFor}
+use Rattle.ca_law_lossless.proofs.AddressLemmas.{packet-for, respond-for}
+use Rattle.ca_law_lossless.proofs.RowCalm.{arrival-calm, flush-whole, operation-calm, packet-calm, respond-calm, timeout-calm, whole-append}
+use Rattle.ca_law_lossless.specs.RowMail.{AreWholeDrops, IsFor, KeepsCalm, SendsFor}
 use Rattle.ca_law_once.proofs.Ties.DeliverWalk.{Changes, Ends, Has, ends-do, has-aside, has-turn, has-writes, puts-append}
 use Rattle.ca_law_once.proofs.Ties.SendLemmas.{boxes_after, leads-left}
 use Rattle.ca_law_once.proofs.Ties.TellLemmas.{leads-both}
 use Rattle.ca_law_once.proofs.Ties.TimerLemmas.{IsFoundAt, found-at}
 use Rattle.ca_law_once.specs.Ties.{LeavesPairs}
-use Rattle.ca_law_calm.proofs.DeliverCalm.{leads-arrival}
+use Rattle.ca_law_lossless.proofs.DeliverCalm.{leads-arrival}
 use Rattle.ca_law_once.specs.Moves.{RowLeads}
 use Rattle.ca_law_once.proofs.Verbs.BeginLemmas.{created-has}
 use Rattle.ca_law_once.proofs.Verbs.PairLemmas.{Replaces, replaces-changed, replaces-turned}

@@ -17,7 +17,7 @@ use Rattle.ca_model.specs.machine.Run.{Follows}
 use Rattle.ca_model.specs.machine.Sound.{AreLimited, CanBeMade}
 use Rattle.ca_model.specs.machine.Step.{step}
 use Rattle.ca_model.specs.machine.World.{World, opening_world}
-use Rattle.ca_law_calm.specs.CalmEvents.{IsCalmEvent}
+use Rattle.ca_law_lossless.specs.CalmEvents.{IsCalmEvent}
 use Rattle.ca_law_bounds.proofs.RunWeights.{histories-bounded}
 use Rattle.ca_law_bounds.specs.Forward.{AllGoForward, GoesForward, packets_in, verbs_in}
 use Rattle.ca_law_bounds.specs.PostWeights.{InjectsNothing}

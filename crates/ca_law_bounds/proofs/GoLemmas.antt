@@ -55,12 +55,12 @@ use Rattle.ca_law_once.specs.Ties.IsBefore.{sooner, unnamed}
 use Rattle.ca_law_once.specs.Ties.IsOver.{later, vacant}
 use Rattle.ca_law_once.specs.Ties.ReceiverTie.{before as receiver_before, standing as receiver_standing, gone as receiver_gone}
 use Rattle.ca_law_once.specs.Ties.SenderTie.{before as sender_before, standing as sender_standing, gone as sender_gone}
-use Rattle.ca_law_calm.proofs.ArriveRows.{arrival-silent, stays-cursor}
-use Rattle.ca_law_calm.proofs.DeliverCalm.{leads-arrival}
-use Rattle.ca_law_calm.proofs.EndLemmas.{sending-connected}
-use Rattle.ca_law_calm.proofs.MailLemmas.{IsOldest, oldest}
-use Rattle.ca_law_calm.specs.CalmEvents.{IsCalmEvent}
-use Rattle.ca_law_calm.specs.CalmTies.{AreFresh, CursorGoesOn}
+use Rattle.ca_law_lossless.proofs.ArriveRows.{arrival-silent, stays-cursor}
+use Rattle.ca_law_lossless.proofs.DeliverCalm.{leads-arrival}
+use Rattle.ca_law_lossless.proofs.EndLemmas.{sending-connected}
+use Rattle.ca_law_lossless.proofs.MailLemmas.{IsOldest, oldest}
+use Rattle.ca_law_lossless.specs.CalmEvents.{IsCalmEvent}
+use Rattle.ca_law_lossless.specs.CalmTies.{AreFresh, CursorGoesOn}
 use Rattle.ca_law_once.proofs.Rows.StayLemmas.{Stays}
 use Rattle.ca_law_once.specs.Beginnings.{AllBeginEmpty}
 use Rattle.ca_law_bounds.specs.WorldWeights.{cursor_of}

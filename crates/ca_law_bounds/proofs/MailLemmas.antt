@@ -29,8 +29,8 @@ use Rattle.ca_model.specs.machine.World.{World}
 use Rattle.ca_wire.specs.Decoding.{packet_in}
 use Rattle.ca_wire.specs.Packet.{Fields}
 use Rattle.ca_wire.specs.declared.wire_error.WireError.{WireError}
-use Rattle.ca_law_calm.specs.RowMail.{AreWholeDrops, IsFor, SendsFor}
-use Rattle.ca_law_calm.specs.Standing.{IsNoRnrNak}
+use Rattle.ca_law_lossless.specs.RowMail.{AreWholeDrops, IsFor, SendsFor}
+use Rattle.ca_law_lossless.specs.Standing.{IsNoRnrNak}
 use Rattle.ca_law_once.proofs.Ties.DeliverWalk.{Has}
 use Rattle.ca_law_once.proofs.Ties.EntryLemmas.{IsLent, lent-envelope}
 use Rattle.ca_law_once.proofs.Ties.SendLemmas.{boxes_after}

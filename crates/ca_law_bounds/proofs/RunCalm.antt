@@ -37,7 +37,7 @@ use Rattle.ca_model.specs.machine.Step.{step}
 use Rattle.ca_model.specs.machine.World.{World, opening_world}
 use Rattle.ca_law_once.proofs.Once.RunLemmas.{Steps, Walk, walk-along}
 use Rattle.ca_wire.specs.Packet.{Fields, spelling}
-use Rattle.ca_law_calm.specs.RowMail.{AreWholeDrops}
+use Rattle.ca_law_lossless.specs.RowMail.{AreWholeDrops}
 
 -- ---- what has its cause is a packet
 

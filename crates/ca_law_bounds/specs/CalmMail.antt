@@ -13,8 +13,8 @@ use Rattle.ca_model.specs.declared.mark.Mark.TheVariants as marks
 use Rattle.ca_model.specs.machine.World.{World}
 use Rattle.ca_wire.specs.Decoding.{packet_in}
 use Rattle.ca_wire.specs.Packet.{Fields}
-use Rattle.ca_law_calm.specs.RowMail.{IsFor}
-use Rattle.ca_law_calm.specs.Standing.{IsNoRnrNak, is_not_ready}
+use Rattle.ca_law_lossless.specs.RowMail.{IsFor}
+use Rattle.ca_law_lossless.specs.Standing.{IsNoRnrNak, is_not_ready}
 use Rattle.ca_law_once.specs.Entries.{syndrome_of}
 use Rattle.ca_law_bounds.specs.PostWeights.{InjectsNothing}
 

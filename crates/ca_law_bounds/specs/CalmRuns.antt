@@ -14,8 +14,8 @@ use Rattle.ca_model.specs.machine.Frame.{Afterwards}
 use Rattle.ca_model.specs.machine.Invariants.{is_sending}
 use Rattle.ca_model.specs.machine.Step.{step}
 use Rattle.ca_model.specs.machine.World.{World}
-use Rattle.ca_law_calm.specs.CalmEvents.{AreCalm, IsCalmEvent}
-use Rattle.ca_law_calm.specs.CalmTies.{CursorGoesOn}
+use Rattle.ca_law_lossless.specs.CalmEvents.{AreCalm, IsCalmEvent}
+use Rattle.ca_law_lossless.specs.CalmTies.{CursorGoesOn}
 use Rattle.ca_law_bounds.specs.Forward.{HasOneWidth}
 use Rattle.ca_law_bounds.specs.WorldWeights.{IsFreshAt, cursor_of}
 

@@ -5,11 +5,11 @@ use Rattle.ca_base.specs.declared.request.SendOp.{SendOp}
 use Rattle.ca_base.specs.declared.request.SendOp.TheVariants as ops
 use Rattle.ca_model.specs.declared.verb.Verb.{Verb}
 use Rattle.ca_model.specs.declared.verb.Verb.TheVariants as verbs
-use Rattle.ca_trace_words.specs.Verbs.{verb_words, call_words, call}
-use Rattle.ca_trace_words.specs.Words.{Lettered, word, words}
+use Rattle.ca_trace_print.specs.Verbs.{verb_words, call_words, call}
+use Rattle.ca_trace_print.specs.Words.{Lettered, word, words}
 use Rattle.std.specs.Int.{w32}
-use Rattle.ca_script_words.specs.Words.{words_of, is_consumer, limited}
-use Rattle.ca_reading_words.specs.Fits.{AllFit}
+use Rattle.ca_script_lex.specs.Words.{words_of, is_consumer, limited}
+use Rattle.ca_trace_lex.specs.Fits.{AllFit}
 use Rattle.ca_script_lines.specs.Grammar.{consumer_lines}
 use Rattle.ca_script_lines.specs.Rows.{read_table}
 use Rattle.ca_script_lines.specs.declared.what.What.TheVariants as whats

@@ -5,7 +5,7 @@ use Rattle.ca_mailbox.specs.declared.weather.Weather.TheVariants.{Calm}
 use Rattle.ca_model.specs.Entries.{EntryValue}
 use Rattle.ca_model.specs.declared.mark.Mark.{Mark}
 use Rattle.ca_model.specs.declared.mark.Mark.TheVariants as marks
-use Rattle.ca_law_calm.specs.Standing.{IsNoRnrNak}
+use Rattle.ca_law_lossless.specs.Standing.{IsNoRnrNak}
 use Rattle.ca_script.specs.Script.{ScriptValue}
 use Rattle.ca_script_lines.specs.declared.Line.{Line}
 use Rattle.ca_script_lines.specs.declared.what.What.{What}

@@ -11,8 +11,8 @@ use Rattle.ca_model.specs.Licensed.{Licensed}
 use Rattle.ca_model.specs.Once.{Once}
 use Rattle.ca_model.specs.Ordered.{Ordered}
 use Rattle.ca_model.specs.machine.Run.{Follows}
-use Rattle.ca_order.specs.OfScript.{LeadsTo}
-use Rattle.ca_order.specs.Order.{Stage, ending}
+use Rattle.ca_script_order.specs.OfScript.{LeadsTo}
+use Rattle.ca_script_order.specs.Order.{Stage, ending}
 use Rattle.ca_script.specs.Script.{ScriptValue}
 use Rattle.ca_law_once.specs.Written.{Written, WrittenOnce}
 

@@ -13,7 +13,7 @@ use Rattle.ca_model.specs.machine.Seen.{shared_receives}
 use Rattle.ca_model.specs.machine.Sound.{HasFewPieces}
 use Rattle.ca_model.specs.machine.Turns.{reaches_peer}
 use Rattle.ca_model.specs.machine.World.{World}
-use Rattle.ca_order.specs.OfScript.{BudgetSpent, Fine, Stalled, Status}
+use Rattle.ca_script_order.specs.OfScript.{BudgetSpent, Fine, Stalled, Status}
 use Rattle.ca_script_lines.specs.declared.Line.{Line}
 use Rattle.ca_script_lines.specs.declared.what.What.{What}
 use Rattle.ca_script_lines.specs.declared.what.What.TheVariants as whats

@@ -18,9 +18,9 @@ use Rattle.ca_model.specs.machine.CanStep.{CanStep}
 use Rattle.ca_requester.specs.declared.progress.Acknowledged.{Acknowledged}
 use Rattle.ca_requester.specs.declared.progress.Reached.{Reached}
 use Rattle.ca_requester.specs.Progress.{IsAcknowledged, IsBegunAt, IsOldest, IsProgress, IsReached, finished_from, finished_marks_from, if_has_psn, numbers_behind, numbers_with_una, reached_numbers, una_behind}
-use Rattle.ca_sending.proofs.NumberingLemmas.{at_under, start_within}
-use Rattle.ca_sending.specs.Finished.{success_between, success_from}
-use Rattle.ca_sending.specs.Numbering.{AreNumbers, IsNumbered, IsWithin, begun_from, numbers_from}
+use Rattle.ca_requester_sends.proofs.NumberingLemmas.{at_under, start_within}
+use Rattle.ca_requester_sends.specs.Finished.{success_between, success_from}
+use Rattle.ca_requester_sends.specs.Numbering.{AreNumbers, IsNumbered, IsWithin, begun_from, numbers_from}
 
 -- a choice that is not made
 skips : (b : Bool) (x y : Option ℕ) → b ≡ false → y ≡ None → (if b then x else y) ≡ None

@@ -13,11 +13,11 @@ use Rattle.ca_model.specs.machine.Row.{Effects, Row, plain_row, Does}
 use Rattle.ca_requester.specs.Progress.{IsAcknowledged, IsOldest, IsProgress, acknowledgement_of, if_has_psn, numbers_behind}
 use Rattle.ca_requester.specs.Responses.{bad_answer_effects, if_fits}
 use Rattle.ca_requester.specs.declared.progress.Acknowledged.{Acknowledged}
-use Rattle.ca_sending.proofs.OutcomeLemmas.{is_ahead}
-use Rattle.ca_sending.specs.Finished.{IsAhead, success_between}
-use Rattle.ca_sending.specs.Outcome.{IsUnder, Makes, effects_behind, failure_of, numbers_of}
-use Rattle.ca_sending.specs.declared.outcome.Outcome.{Outcome}
-use Rattle.ca_sending.specs.declared.outcome.Outcome.TheVariants.{Fails}
+use Rattle.ca_requester_sends.proofs.OutcomeLemmas.{is_ahead}
+use Rattle.ca_requester_sends.specs.Finished.{IsAhead, success_between}
+use Rattle.ca_requester_sends.specs.Outcome.{IsUnder, Makes, effects_behind, failure_of, numbers_of}
+use Rattle.ca_requester_sends.specs.declared.outcome.Outcome.{Outcome}
+use Rattle.ca_requester_sends.specs.declared.outcome.Outcome.TheVariants.{Fails}
 
 -- what is acknowledged completes, and then comes an outcome under the numbers behind it
 makes-then : (q : QueuePair) (until : ℕ) (numbers : RequesterNumbers) (f : QueuePair → Effects) (o : Outcome)

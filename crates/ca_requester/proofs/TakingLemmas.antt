@@ -9,7 +9,7 @@ use Rattle.ca_base.specs.declared.denied_ask.DeniedAsk.{DeniedAsk}
 use Rattle.ca_base.specs.declared.limits.TheConstants.{MAX_PIECES}
 use Rattle.ca_base.specs.declared.queue_numbers.RequesterNumbers.{RequesterNumbers}
 use Rattle.ca_base.specs.objects.QueuePair.{QueuePair}
-use Rattle.ca_sending.specs.ca_grant.Reaching.{AreAtHand}
+use Rattle.ca_requester_sends.specs.ca_grant.Reaching.{AreAtHand}
 use Rattle.ca_model.specs.Marks.{MarkList}
 use Rattle.ca_model.specs.declared.mark.Mark.{Mark}
 use Rattle.ca_model.specs.declared.marks.TheConstants.{SPARE_MARKS}
@@ -24,14 +24,14 @@ use Rattle.ca_requester.proofs.ResponseLemmas.{IsFitting}
 use Rattle.ca_requester.specs.Progress.{IsProgress, numbers_behind}
 use Rattle.ca_requester.specs.declared.progress.Acknowledged.{Acknowledged}
 use Rattle.ca_requester.specs.Responses.{CanWriteBy, answer_effects, denied_effects}
-use Rattle.ca_sending.specs.ca_rows.Asks.{AreAsksFor, IsGranted}
-use Rattle.ca_sending.proofs.of_ca_rows.AskLemmas.{whole}
-use Rattle.ca_sending.proofs.of_ca_rows.WriteLemmas.{can_write, marks-count}
-use Rattle.ca_sending.specs.ca_rows.Made.{AreAdded, HasMade, IsMade, IsTaking}
-use Rattle.ca_sending.proofs.FinishedLemmas.{added_behind, few_finished}
-use Rattle.ca_sending.specs.Finished.{success_between}
-use Rattle.ca_sending.specs.Outcome.{effects_behind, failure_of}
-use Rattle.ca_sending.specs.declared.outcome.Outcome.TheVariants.{Fails}
+use Rattle.ca_requester_sends.specs.ca_qp_rows.Asks.{AreAsksFor, IsGranted}
+use Rattle.ca_requester_sends.proofs.of_ca_qp_rows.AskLemmas.{whole}
+use Rattle.ca_requester_sends.proofs.of_ca_qp_rows.WriteLemmas.{can_write, marks-count}
+use Rattle.ca_requester_sends.specs.ca_qp_rows.Made.{AreAdded, HasMade, IsMade, IsTaking}
+use Rattle.ca_requester_sends.proofs.FinishedLemmas.{added_behind, few_finished}
+use Rattle.ca_requester_sends.specs.Finished.{success_between}
+use Rattle.ca_requester_sends.specs.Outcome.{effects_behind, failure_of}
+use Rattle.ca_requester_sends.specs.declared.outcome.Outcome.TheVariants.{Fails}
 
 -- in the room that was reserved come the completions of what is finished before an answer, the marks of its bytes, and the
 -- completions of what is finished with it

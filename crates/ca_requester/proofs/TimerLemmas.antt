@@ -7,9 +7,9 @@ use Rattle.ca_model.specs.declared.mark.Mark.TheVariants as marks
 use Rattle.ca_model.specs.machine.Acknowledgements.{one_retry}
 use Rattle.ca_model.specs.machine.Expected.{behind_marks}
 use Rattle.ca_model.specs.machine.Timers.{after_timeout}
-use Rattle.ca_sending.proofs.FinishedLemmas.{nothing-between}
-use Rattle.ca_sending.specs.Outcome.{IsUnder, effects_behind, numbers_of, outcome_effects}
-use Rattle.ca_sending.specs.declared.outcome.Outcome.{Outcome}
+use Rattle.ca_requester_sends.proofs.FinishedLemmas.{nothing-between}
+use Rattle.ca_requester_sends.specs.Outcome.{IsUnder, effects_behind, numbers_of, outcome_effects}
+use Rattle.ca_requester_sends.specs.declared.outcome.Outcome.{Outcome}
 
 retried : (q : QueuePair) (silent : Bool) (o : Outcome) → IsUnder (record q.requester { timers = suc q.requester.timers }) (one_retry q.requester.una) o
     → effects_behind (marks.Timer q.queue silent ∷ []) o q ≡ after_timeout silent q

@@ -9,8 +9,8 @@ use Rattle.ca_model.specs.machine.Completions.{success_marks}
 use Rattle.ca_model.specs.machine.Numbering.{Numbered, has_psn, psn_end, request_at}
 use Rattle.ca_requester.specs.declared.progress.Acknowledged.{Acknowledged}
 use Rattle.ca_requester.specs.declared.progress.Reached.{Reached}
-use Rattle.ca_sending.specs.Finished.{success_between}
-use Rattle.ca_sending.specs.Numbering.{AreNumbers, IsNumbered, IsWithin, begun_from}
+use Rattle.ca_requester_sends.specs.Finished.{success_between}
+use Rattle.ca_requester_sends.specs.Numbering.{AreNumbers, IsNumbered, IsWithin, begun_from}
 
 -- those of the requests from a posting place on that have begun and whose PSNs all lie below one
 abbrev pub finished_from : ℕ → ℕ → ℕ → QueuePair → List Numbered

@@ -13,7 +13,7 @@ use Rattle.ca_model.specs.machine.Responses.{drop_effects, fits_request, fitting
 use Rattle.ca_model.specs.machine.Row.{Effects, Row, plain_row, Does}
 use Rattle.ca_wire.specs.Packet.{Fields}
 use Rattle.ca_base.specs.Sight.{Sight}
-use Rattle.ca_sending.specs.ca_rows.Asks.{CanWrite, touched_by}
+use Rattle.ca_requester_sends.specs.ca_qp_rows.Asks.{CanWrite, touched_by}
 use Rattle.ca_requester.specs.declared.taking.Taken.{Taken}
 use Rattle.ca_requester.specs.declared.responses.Arrival.{Arrival}
 use Rattle.ca_requester.specs.declared.responses.Arrival.TheVariants.{Drops, Acks, RnrNaks, Naks, Fits}

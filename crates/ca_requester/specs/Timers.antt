@@ -6,7 +6,7 @@ use Rattle.ca_base.specs.declared.step.StepError.TheVariants as steps
 use Rattle.ca_base.specs.objects.QueuePair.{QueuePair}
 use Rattle.ca_model.specs.Marks.{MarkList}
 use Rattle.ca_model.specs.machine.Row.{Effects}
-use Rattle.ca_sending.specs.ca_rows.Made.{HasMade, IsUnchanged}
+use Rattle.ca_requester_sends.specs.ca_qp_rows.Made.{HasMade, IsUnchanged}
 
 -- the reason for which a step is not possible now; none where memory ended
 abbrev pub reason_of : StepError → Option Reason

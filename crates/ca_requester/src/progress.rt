@@ -2,12 +2,12 @@ ghost use Rattle.std.specs.Prelude.{◌≡◌, ◌+◌, ◌<◌, ◌^◌, ◌&&�
 ghost use Rattle.ca_model.specs.machine.CanStep.{CanStep};
 ghost use Rattle.ca_model.specs.machine.Numbering.{is_answered_op, psn_end};
 ghost use Rattle.ca_requester.specs.Progress.{IsAcknowledged, IsOldest, IsProgress, IsReached, numbers_behind, numbers_with_una, reached_numbers};
-ghost use Rattle.ca_sending.specs.Numbering.{IsNumbered, IsWithin};
+ghost use Rattle.ca_requester_sends.specs.Numbering.{IsNumbered, IsWithin};
 
 use ca_base::RequesterNumbers;
-use ca_sending::ca_qpstate::QueuePart;
-use ca_sending::ca_rows::is_answered;
-use ca_sending::{Numbered, begun_at};
+use ca_requester_sends::ca_qp_rows::is_answered;
+use ca_requester_sends::ca_qpstate::QueuePart;
+use ca_requester_sends::{Numbered, begun_at};
 
 /// Where the oldest unfinished request stands after an acknowledgement: its posting place, the first PSN that it has or
 /// would get, and that request, where it has begun; and the PSN to which the requester goes back, if it does.

@@ -6,18 +6,18 @@ ghost use Rattle.ca_model.specs.machine.Responses as rows;
 ghost use Rattle.ca_wire.specs.Syndrome.{syndrome_in};
 ghost use Rattle.ca_requester.specs.Progress.{IsProgress, acknowledgement_of, if_has_psn, numbers_behind};
 ghost use Rattle.ca_requester.specs.Responses.{IsArrival, bad_answer_effects, if_fits};
-ghost use Rattle.ca_sending.specs.Numbering.{IsRequestOf, IsSound};
-ghost use Rattle.ca_sending.specs.Outcome.{IsUnder, Makes, failure_of};
-ghost use Rattle.ca_sending.specs.declared.outcome.Outcome.TheVariants.{Fails};
+ghost use Rattle.ca_requester_sends.specs.Numbering.{IsRequestOf, IsSound};
+ghost use Rattle.ca_requester_sends.specs.Outcome.{IsUnder, Makes, failure_of};
+ghost use Rattle.ca_requester_sends.specs.declared.outcome.Outcome.TheVariants.{Fails};
 
 use crate::progress::{Acknowledged, acknowledged_below, numbers_after};
 use ca_base::limits::MAX_RETRY;
 use ca_base::{RequesterNumbers, WcStatus};
 use ca_model::Drop1;
 use ca_psn::widen;
-use ca_sending::ca_qpstate::QueuePart;
-use ca_sending::ca_rows::{is_atomic, is_read, list_length, list_of};
-use ca_sending::{Failure, Numbered, Outcome, is_sending, one_retry};
+use ca_requester_sends::ca_qp_rows::{is_atomic, is_read, list_length, list_of};
+use ca_requester_sends::ca_qpstate::QueuePart;
+use ca_requester_sends::{Failure, Numbered, Outcome, is_sending, one_retry};
 use ca_wire::opcode::{
     ACKNOWLEDGE, ATOMIC_ACKNOWLEDGE, RDMA_READ_RESPONSE_LAST, RDMA_READ_RESPONSE_ONLY,
 };

@@ -1,7 +1,7 @@
 ghost use Rattle.std.specs.Prelude.{◌≡◌, ◌≤◌, ◌<◌, ◌^◌, [], suc, true, IfSome, length};
 ghost use Rattle.ca_keys.specs.declared.access.Kind.{Kind};
 ghost use Rattle.ca_base.specs.declared.limits.TheConstants.{MAX_PAYLOAD_BYTES};
-ghost use Rattle.ca_sending.specs.ca_grant.Reaching.{AreAtHand};
+ghost use Rattle.ca_requester_sends.specs.ca_grant.Reaching.{AreAtHand};
 ghost use Rattle.ca_model.specs.Packets.{is_response};
 ghost use Rattle.ca_model.specs.machine.Acknowledgements.{acknowledgement_below, progress_to};
 ghost use Rattle.ca_model.specs.machine.CanStep.{CanStep};
@@ -10,9 +10,9 @@ ghost use Rattle.ca_model.specs.machine.Row.{Does, ending_of};
 ghost use Rattle.ca_wire.specs.Packet.{IsWellFormed};
 ghost use Rattle.ca_requester.specs.Progress.{IsProgress, acknowledgement_of, numbers_behind};
 ghost use Rattle.ca_requester.specs.Responses.{CanWriteBy, IsTakenAnswer, answer_effects, bad_answer_effects, denied_effects};
-ghost use Rattle.ca_sending.specs.ca_rows.Asks.{AreAsksFor, IsFoundFirst};
-ghost use Rattle.ca_sending.specs.ca_rows.Made.{IsMade, IsTaking};
-ghost use Rattle.ca_sending.specs.Numbering.{IsRequestOf};
+ghost use Rattle.ca_requester_sends.specs.ca_qp_rows.Asks.{AreAsksFor, IsFoundFirst};
+ghost use Rattle.ca_requester_sends.specs.ca_qp_rows.Made.{IsMade, IsTaking};
+ghost use Rattle.ca_requester_sends.specs.Numbering.{IsRequestOf};
 
 use crate::progress::{
     Acknowledged, OldestBelow, acknowledged_below, acknowledged_by_answer, numbers_after,
@@ -25,13 +25,13 @@ use arrayvec::ArrayVec;
 use ca_base::limits::{ATOMIC_BYTES, MAX_PIECES};
 use ca_base::{Ask, DeniedAsk, Kind, Memory, WcStatus};
 use ca_model::{Marks, SPARE_MARKS};
-use ca_sending::ca_grant::Reach;
-use ca_sending::ca_qpstate::QueuePart;
-use ca_sending::ca_rows::{
+use ca_requester_sends::ca_grant::Reach;
+use ca_requester_sends::ca_qp_rows::{
     Asker, JudgedAsks, drop_packet, fill_asks, judge_all, list_of, local_denial, push_writes,
     write_judged,
 };
-use ca_sending::{
+use ca_requester_sends::ca_qpstate::QueuePart;
+use ca_requester_sends::{
     Failure, Numbered, Outcome, complete_before, finished_count, make, push_finished,
 };
 use ca_wire::opcode::ATOMIC_ACKNOWLEDGE;
@@ -102,7 +102,7 @@ fn fill_answer_asks(
 }
 
 /// Where an answer's bytes begin in its request's message.
-#[tactic(auto, using(ca_sending::proofs::NumberingLemmas::few_before))]
+#[tactic(auto, using(ca_requester_sends::proofs::NumberingLemmas::few_before))]
 fn bytes_before(q: &QueuePart, psn: u64, request: &Numbered<'_>) -> u32
     requires { IsRequestOf psn q.now request.now }
     ensures { result ≡ rows.segment_at psn q.now request.now }
@@ -166,7 +166,7 @@ fn take_ack(q: &mut QueuePart, psn: u64, marks: &mut Marks) -> Result<(), Memory
 }
 
 /// The requests before the one that is the oldest now complete, and the requester goes on.
-#[tactic(auto, using(ca_sending::proofs::OutcomeLemmas::is_ahead))]
+#[tactic(auto, using(ca_requester_sends::proofs::OutcomeLemmas::is_ahead))]
 #[inline(always)]
 fn go_on(q: &mut QueuePart, acknowledged: Acknowledged, marks: &mut Marks) -> Result<(), Memory>
     requires { IsProgress acknowledged.until q.old.requester (numbers_behind acknowledged q.old) q.old }
@@ -289,7 +289,7 @@ pub(crate) struct Taken {
 }
 
 /// The list is denied: the request fails. It stands apart, since that is rare.
-#[tactic(auto, using(ca_sending::proofs::OutcomeLemmas::is_ahead))]
+#[tactic(auto, using(ca_requester_sends::proofs::OutcomeLemmas::is_ahead))]
 #[cold]
 #[inline(never)]
 fn deny(

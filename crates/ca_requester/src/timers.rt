@@ -7,13 +7,13 @@ ghost use Rattle.ca_requester.specs.Timers.{IsPlainStep, IsStep};
 use ca_base::limits::MAX_RETRY;
 use ca_base::{Reason, RequesterNumbers, StepError};
 use ca_model::{Mark, Marks};
-use ca_sending::ca_qpstate::QueuePart;
-use ca_sending::{is_sending, make, one_retry};
+use ca_requester_sends::ca_qpstate::QueuePart;
+use ca_requester_sends::{is_sending, make, one_retry};
 
 /// A timer fires, if nothing answers (`silent`) or the weather wants it (`hasten`): one retry, back to the first PSN that
 /// is outstanding. Else the reason is the first of `State`, `Empty` and `NotDue`, and nothing changes, as where memory
 /// ends. After Ok there is room for two more marks.
-#[tactic(auto, using(ca_sending::proofs::OutcomeLemmas::is_ahead_now))]
+#[tactic(auto, using(ca_requester_sends::proofs::OutcomeLemmas::is_ahead_now))]
 pub fn on_timeout(
     q: &mut QueuePart,
     silent: bool,

@@ -5,7 +5,7 @@ use Rattle.std.proofs.lemmas.List.Elements.{filter-append}
 use Rattle.ca_base.specs.declared.queue_numbers.Queued.{Queued}
 use Rattle.ca_base.specs.declared.queue_numbers.Queued.TheVariants.{Ack}
 use Rattle.ca_base.specs.objects.Answers.{answers_before, psn_of_answer}
-use Rattle.ca_operations.proofs.of_ca_answering.EndLemmas.{end-set}
+use Rattle.ca_responder_operations.proofs.of_ca_responder_answers.EndLemmas.{end-set}
 
 kept : (psn n : ℕ) → n < psn → answers_before psn (Ack n ∷ []) ≡ Ack n ∷ []
 kept psn n lt = rw (lt-ltb n psn lt) refl

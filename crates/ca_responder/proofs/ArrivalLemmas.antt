@@ -15,11 +15,11 @@ use Rattle.ca_model.specs.Marks.{MarkList}
 use Rattle.ca_model.specs.machine.Arrivals.{refusal_effects}
 use Rattle.ca_model.specs.machine.Expected.{read_queued, valid_row}
 use Rattle.ca_model.specs.machine.Row.{Effects, Ending, NotPossible, Does, Row, plain_row, queue_and_marks}
-use Rattle.ca_operations.specs.ca_rows.Made.{IsMade}
-use Rattle.ca_operations.specs.Taking.{HasArrived, HasTaken, IsTaken, is_taken, outcome_in}
-use Rattle.ca_operations.specs.declared.request.SharedReceive.{SharedReceive}
-use Rattle.ca_operations.specs.declared.request.SharedReceive.TheVariants.{Stays}
-use Rattle.ca_operations.specs.Access.{read_effects}
+use Rattle.ca_responder_operations.specs.ca_qp_rows.Made.{IsMade}
+use Rattle.ca_responder_operations.specs.Taking.{HasArrived, HasTaken, IsTaken, is_taken, outcome_in}
+use Rattle.ca_responder_operations.specs.declared.request.SharedReceive.{SharedReceive}
+use Rattle.ca_responder_operations.specs.declared.request.SharedReceive.TheVariants.{Stays}
+use Rattle.ca_responder_operations.specs.Access.{read_effects}
 
 -- effects that write nothing, and take no receive of a shared receive queue
 pub record IsPlain (e : Effects) : Type 0 where

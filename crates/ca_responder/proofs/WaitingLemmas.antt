@@ -17,7 +17,7 @@ use Rattle.ca_model.specs.declared.receiving.Receiving.{Receiving}
 use Rattle.ca_model.specs.declared.write_reach.WriteReach.{WriteReach}
 use Rattle.ca_model.specs.machine.Expected.{after_write_packet, behind_marks, continues, expected_row, is_invalid, receiving_of, send_row, takes_receive, valid_row, write_reach, write_row}
 use Rattle.ca_model.specs.machine.Row.{Effects, Row, plain_row, Does}
-use Rattle.ca_operations.specs.Receives.{receive_if}
+use Rattle.ca_responder_operations.specs.Receives.{receive_if}
 use Rattle.std.proofs.lemmas.Bool.{le-ltb}
 use Rattle.ca_psn.specs.Psn.{widened}
 use Rattle.ca_model.specs.Packets.{is_response}

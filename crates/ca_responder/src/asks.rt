@@ -10,8 +10,8 @@ ghost use Rattle.ca_model.specs.machine.Expected as rows;
 ghost use Rattle.ca_model.specs.machine.Invariants.{IsSharedReceives};
 ghost use Rattle.ca_responder.specs.Asking as asking;
 ghost use Rattle.ca_responder.specs.Asking.{CanAsk, MeetsNothing};
-ghost use Rattle.ca_operations.specs.Receives.{AreCounted};
-ghost use Rattle.ca_operations.specs.Sends.{key_end};
+ghost use Rattle.ca_responder_operations.specs.Receives.{AreCounted};
+ghost use Rattle.ca_responder_operations.specs.Sends.{key_end};
 ghost use Rattle.ca_model.specs.machine.CanStep.{CanStep};
 ghost use Rattle.ca_wire.specs.Packet.{IsWellFormed};
 
@@ -20,10 +20,12 @@ use arrayvec::ArrayVec;
 use ca_base::limits::{ATOMIC_BYTES, MAX_PIECES};
 use ca_base::{Ask, Key, Message, Piece};
 use ca_model::WriteReach;
-use ca_operations::ca_answering::packet_ask;
-use ca_operations::ca_qpstate::QueuePart;
-use ca_operations::{Request, exceeds_receive, next_receive, receive_asks, write_ask, write_reach};
 use ca_psn::widen;
+use ca_responder_operations::ca_qpstate::QueuePart;
+use ca_responder_operations::ca_responder_answers::packet_ask;
+use ca_responder_operations::{
+    Request, exceeds_receive, next_receive, receive_asks, write_ask, write_reach,
+};
 use ca_srq::Srq;
 use ca_wire::{Packet, Shape, shape_of};
 

@@ -1,7 +1,7 @@
 ghost use Rattle.std.specs.Prelude.{◌≡◌, ◌&&◌, IfSome, None, OnOk, nat_lt, not, false, is_none, option_copied};
 ghost use Rattle.std.specs.Option.{option_map_or};
 ghost use Rattle.ca_base.specs.declared.limits.TheConstants.{MAX_MESSAGE_BYTES};
-ghost use Rattle.ca_operations.specs.Receives.{IsNext, receive_if};
+ghost use Rattle.ca_responder_operations.specs.Receives.{IsNext, receive_if};
 ghost use Rattle.ca_model.specs.machine.Arrivals as arrivals;
 ghost use Rattle.ca_model.specs.machine.Expected as rows;
 ghost use Rattle.ca_model.specs.machine.Invariants.{IsQueue, IsSharedReceives};
@@ -9,8 +9,8 @@ ghost use Rattle.ca_model.specs.machine.Invariants.{IsQueue, IsSharedReceives};
 use ca_base::limits::{ATOMIC_BYTES, MAX_MESSAGE_BYTES, MAX_READS};
 use ca_base::{Memory, Message, PlacedReceive};
 use ca_model::WriteReach;
-use ca_operations::ca_qpstate::QueuePart;
-use ca_operations::{Request, find_receive, next_receive, write_reach};
+use ca_responder_operations::ca_qpstate::QueuePart;
+use ca_responder_operations::{Request, find_receive, next_receive, write_reach};
 use ca_srq::Srq;
 use ca_wire::{Packet, Position, Shape};
 

@@ -3,15 +3,15 @@ ghost use Rattle.ca_base.specs.objects.Answers.{answers_before, has_nak_from};
 ghost use Rattle.ca_model.specs.machine.Duplicates as rows;
 ghost use Rattle.ca_model.specs.machine.Invariants.{IsQueue};
 ghost use Rattle.ca_model.specs.machine.CanStep.{CanStep};
-ghost use Rattle.ca_operations.specs.ca_rows.Made.{IsMade};
+ghost use Rattle.ca_responder_operations.specs.ca_qp_rows.Made.{IsMade};
 
 use ca_base::limits::MAX_DUPLICATES;
 use ca_base::{Answers, Memory, Queued};
 use ca_model::{Drop1, Marks, SPARE_MARKS};
-use ca_operations::Request;
-use ca_operations::ca_answering::queue_answer;
-use ca_operations::ca_qpstate::QueuePart;
-use ca_operations::ca_rows::{drop_packet, segments};
+use ca_responder_operations::Request;
+use ca_responder_operations::ca_qp_rows::{drop_packet, segments};
+use ca_responder_operations::ca_qpstate::QueuePart;
+use ca_responder_operations::ca_responder_answers::queue_answer;
 use ca_wire::{NakCode, Reth, Shape};
 
 /// A packet ahead of the expected one: the first asks for what is missing, the others are dropped.

@@ -1,5 +1,5 @@
 //! The responder of a queue pair: what it makes of a request that arrives, in the order of its steps; its calls on answers
-//! are those of `ca_answering`.
+//! are those of `ca_responder_answers`.
 //!
 //! To the layers above it promises that a request and a turn end as the machine's rows say, for all of the queue pair,
 //! the marks, the packet, what is reached and the shared receive queue; that the asks and the key named before are those
@@ -16,6 +16,6 @@ mod duplicates;
 mod request;
 
 pub use asks::{request_asks, request_key};
-pub use ca_operations::ca_answering::{next_response, respond_ask};
-pub use ca_operations::{ca_answering, ca_rows};
+pub use ca_responder_operations::ca_responder_answers::{next_response, respond_ask};
+pub use ca_responder_operations::{ca_qp_rows, ca_responder_answers};
 pub use request::on_request;

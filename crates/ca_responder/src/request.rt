@@ -7,21 +7,23 @@ ghost use Rattle.ca_model.specs.machine.Arrivals as arrivals;
 ghost use Rattle.ca_model.specs.machine.Delivery.{packet_arrived};
 ghost use Rattle.ca_model.specs.machine.Expected as rows;
 ghost use Rattle.ca_model.specs.machine.Invariants.{IsSharedReceives};
-ghost use Rattle.ca_operations.specs.Taking.{CanMeet, IsArrival, IsTaken, is_taken, outcome_in};
+ghost use Rattle.ca_responder_operations.specs.Taking.{CanMeet, IsArrival, IsTaken, is_taken, outcome_in};
 ghost use Rattle.ca_model.specs.machine.CanStep.{CanStep};
 ghost use Rattle.ca_wire.specs.Packet.{IsWellFormed};
-ghost use Rattle.ca_operations.specs.ca_rows.Made.{IsMade};
+ghost use Rattle.ca_responder_operations.specs.ca_qp_rows.Made.{IsMade};
 
 use crate::checks::{is_invalid, is_missing, put_receive};
 use crate::duplicates::{take_ahead, take_duplicate};
 use ca_base::{Memory, Queued};
 use ca_model::{Drop1, Marks};
-use ca_operations::ca_answering::{queue_answer, refuse_invalid};
-use ca_operations::ca_grant::Reach;
-use ca_operations::ca_qpstate::QueuePart;
-use ca_operations::ca_rows::drop_packet;
-use ca_operations::{Request, SharedReceive, take_atomic, take_read, take_send, take_write};
 use ca_psn::widen;
+use ca_responder_operations::ca_grant::Reach;
+use ca_responder_operations::ca_qp_rows::drop_packet;
+use ca_responder_operations::ca_qpstate::QueuePart;
+use ca_responder_operations::ca_responder_answers::{queue_answer, refuse_invalid};
+use ca_responder_operations::{
+    Request, SharedReceive, take_atomic, take_read, take_send, take_write,
+};
 use ca_srq::Srq;
 use ca_wire::{Packet, Shape, shape_of};
 

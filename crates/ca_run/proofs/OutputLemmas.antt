@@ -1,13 +1,13 @@
 -- The outputs of commands. For proofs only.
 use Rattle.std.proofs.Common.{◌≡◌, ◌++◌, ℕ, List, Option, Some, ap}
-use Rattle.ca_alone_run.specs.Lone.{IsOutcome}
-use Rattle.ca_alone_run.specs.declared.lone.Outcome.{Outcome}
-use Rattle.ca_alone_run.specs.declared.lone.Outcome.TheVariants as outcomes
+use Rattle.ca_run_alone.specs.Lone.{IsOutcome}
+use Rattle.ca_run_alone.specs.declared.lone.Outcome.{Outcome}
+use Rattle.ca_run_alone.specs.declared.lone.Outcome.TheVariants as outcomes
 use Rattle.ca_isolation.specs.Groups.{group_of}
 use Rattle.ca_keys.specs.declared.names.DomainId.{DomainId}
 use Rattle.ca_model.specs.Entries.{EntryValue}
-use Rattle.ca_order.specs.OfScript as machine
-use Rattle.ca_order.specs.Order.{order}
+use Rattle.ca_script_order.specs.OfScript as machine
+use Rattle.ca_script_order.specs.Order.{order}
 use Rattle.ca_run.proofs.StatusLemmas.{ended-told}
 use Rattle.ca_run.specs.Beside.{status_of_outcome, text_of_outcome}
 use Rattle.ca_run.specs.Run.{IsClosedOutput, IsLoneOutput, IsRaceOutput, IsRaced, IsRead, IsScriptOutput, IsTextOf, IsWorked}

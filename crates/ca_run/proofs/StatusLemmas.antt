@@ -1,11 +1,11 @@
 -- What statuses are not. For proofs only.
 use Rattle.std.proofs.Common.{◌≡◌, true, false, Some, refl, sym, subst, true≢false}
-use Rattle.ca_order.specs.OfScript as machine
+use Rattle.ca_script_order.specs.OfScript as machine
 use Rattle.ca_run.specs.Status.{ended_as, ends_reading, is_whole, status_of_end, status_of_write}
 use Rattle.ca_run.specs.declared.status.Status.{Status}
 use Rattle.ca_run.specs.declared.status.Status.TheVariants as statuses
-use Rattle.ca_output.specs.declared.stop.WriteStop.{WriteStop}
-use Rattle.ca_output.specs.declared.stop.WriteStop.TheVariants as stops
+use Rattle.ca_trace_output.specs.declared.stop.WriteStop.{WriteStop}
+use Rattle.ca_trace_output.specs.declared.stop.WriteStop.TheVariants as stops
 
 -- one that ends the reading of a script is not one after which all was written
 pub not-whole : (s : Status) → ends_reading s ≡ true → is_whole s ≡ true → ⊥

@@ -1,14 +1,14 @@
 -- What is told of a script and of a group beside it. Contracts cite it.
 use Rattle.std.specs.Prelude.{ℕ, List, ◌++◌}
-use Rattle.ca_alone_run.specs.declared.lone.Lone.{Lone}
-use Rattle.ca_alone_run.specs.declared.lone.Outcome.{Outcome}
-use Rattle.ca_alone_run.specs.declared.lone.Outcome.TheVariants as outcomes
+use Rattle.ca_run_alone.specs.declared.lone.Lone.{Lone}
+use Rattle.ca_run_alone.specs.declared.lone.Outcome.{Outcome}
+use Rattle.ca_run_alone.specs.declared.lone.Outcome.TheVariants as outcomes
 use Rattle.ca_model.specs.Entries.{EntryValue}
-use Rattle.ca_order.specs.OfScript as machine
+use Rattle.ca_script_order.specs.OfScript as machine
 use Rattle.ca_run.specs.Status.{status_of_end}
 use Rattle.ca_run.specs.declared.status.Status.{Status}
 use Rattle.ca_run.specs.declared.status.Status.TheVariants as statuses
-use Rattle.ca_race.specs.ca_script_run.Statuses.{status_value}
+use Rattle.ca_run_race.specs.ca_script_run.Statuses.{status_value}
 use Rattle.ca_trace.specs.Trace.{text}
 
 -- the status where all is written

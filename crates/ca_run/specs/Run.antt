@@ -1,25 +1,25 @@
 -- What a run of the program did, by its command and its status. Contracts cite it.
 use Rattle.std.specs.Prelude.{◌≡◌, ◌++◌, ℕ, List, [], slice_get, Option, Some, IfSome, Ok}
-use Rattle.ca_alone_run.specs.Lone.{HasReplies}
+use Rattle.ca_run_alone.specs.Lone.{HasReplies}
 use Rattle.ca_isolation.specs.Groups.{group_of, strays_of}
 use Rattle.ca_keys.specs.declared.names.DomainId.{DomainId}
 use Rattle.ca_keys.specs.declared.names.QueueId.{QueueId}
-use Rattle.ca_made.specs.Made.{made_script}
+use Rattle.ca_script_seed.specs.Made.{made_script}
 use Rattle.ca_model.specs.Entries.{EntryValue}
-use Rattle.ca_order.specs.OfScript as machine
-use Rattle.ca_order.specs.OfScript.{HasStatus}
-use Rattle.ca_order.specs.Order.{Stage, ending, order}
-use Rattle.ca_order.specs.Summary.{summary}
+use Rattle.ca_script_order.specs.OfScript as machine
+use Rattle.ca_script_order.specs.OfScript.{HasStatus}
+use Rattle.ca_script_order.specs.Order.{Stage, ending, order}
+use Rattle.ca_script_order.specs.Summary.{summary}
 use Rattle.ca_law_scripts.specs.Lawful.{IsLawfulHistory, IsLawfulOrder}
-use Rattle.ca_reading.specs.ca_reading_fits.Histories.{HistoryFits}
+use Rattle.ca_trace_read.specs.ca_trace_read_fits.Histories.{HistoryFits}
 use Rattle.ca_run.specs.Status.{ended_as}
 use Rattle.ca_run.specs.declared.status.Status.{Status}
 use Rattle.ca_run.specs.declared.status.Status.TheVariants as statuses
 use Rattle.ca_script.specs.Script.{ScriptValue, script_of}
-use Rattle.ca_made.specs.Text.{summary_text}
+use Rattle.ca_script_seed.specs.Text.{summary_text}
 use Rattle.ca_trace.specs.Trace.{text}
-use Rattle.ca_words.specs.declared.command.Command.{Command}
-use Rattle.ca_words.specs.declared.command.Command.TheVariants as commands
+use Rattle.ca_run_command.specs.declared.command.Command.{Command}
+use Rattle.ca_run_command.specs.declared.command.Command.TheVariants as commands
 
 -- The order of the script is lawful, and ended so.
 pub record IsWorked (s : ScriptValue) (ended : machine.Status) : Type 0 where

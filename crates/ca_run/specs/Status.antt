@@ -1,16 +1,16 @@
 -- The exit code and the line of each status, and what it tells of a script that was worked. Contracts cite it.
 use Rattle.std.specs.Prelude.{ℕ, Bool, true, false, List, [], ◌++◌, codes, decimal, Option, None, Some, is_some}
 use Rattle.ca_keys.specs.Spelling.{queue_text}
-use Rattle.ca_order.specs.OfScript as machine
+use Rattle.ca_script_order.specs.OfScript as machine
 use Rattle.ca_outside.specs.declared.transfer.ReadStop.{ReadStop}
 use Rattle.ca_outside.specs.declared.transfer.ReadStop.TheVariants as stops
 use Rattle.ca_run.specs.declared.status.Status.{Status}
 use Rattle.ca_run.specs.declared.status.Status.TheVariants as statuses
 use Rattle.ca_script.specs.declared.script_error.ScriptError.{ScriptError}
 use Rattle.ca_script.specs.declared.script_error.ScriptError.TheVariants as errors
-use Rattle.ca_script_words.specs.Causes.{cause_text}
-use Rattle.ca_output.specs.declared.stop.WriteStop.{WriteStop}
-use Rattle.ca_output.specs.declared.stop.WriteStop.TheVariants as write_stops
+use Rattle.ca_script_lex.specs.Causes.{cause_text}
+use Rattle.ca_trace_output.specs.declared.stop.WriteStop.{WriteStop}
+use Rattle.ca_trace_output.specs.declared.stop.WriteStop.TheVariants as write_stops
 
 abbrev pub exit_code : Status → ℕ
 exit_code statuses.Fine = 0

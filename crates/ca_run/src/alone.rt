@@ -6,17 +6,17 @@ ghost use Rattle.ca_run.specs.Run.{Wrote, WroteFront};
 ghost use Rattle.ca_run.specs.Status.{is_whole, writes};
 ghost use Rattle.ca_run.specs.declared.status.Status.TheVariants as statuses;
 ghost use Rattle.ca_script.specs.Script.{script_of};
-ghost use Rattle.ca_script_words.specs.declared.cause.ScriptCause.{ScriptCause};
-ghost use Rattle.ca_words.specs.declared.command.Command.TheVariants as commands;
+ghost use Rattle.ca_script_lex.specs.declared.cause.ScriptCause.{ScriptCause};
+ghost use Rattle.ca_run_command.specs.declared.command.Command.TheVariants as commands;
 
 use crate::reading::script_from;
 use crate::status::Status;
 use crate::working::work_beside;
-use ca_alone_run::{Lone, Outcome};
 use ca_base::DomainId;
 use ca_base::limits::MAX_SCRIPT_BYTES;
-use ca_output::{write_history, write_history_with};
 use ca_outside::{Sink, Source};
+use ca_run_alone::{Lone, Outcome};
+use ca_trace_output::{write_history, write_history_with};
 use std::alloc::Global;
 
 /// Reads a script to the end of the source, works it, and writes the text of its history; behind it the replies of the group's

@@ -4,7 +4,7 @@ ghost use Rattle.ca_outside.specs.Outside.{AppendsPart, Rose};
 ghost use Rattle.ca_run.specs.Run.{Wrote, WroteFront};
 ghost use Rattle.ca_run.specs.Status.{is_whole, may_end_made};
 ghost use Rattle.ca_run.specs.declared.status.Status.TheVariants as statuses;
-ghost use Rattle.ca_words.specs.declared.command.Command.TheVariants as commands;
+ghost use Rattle.ca_run_command.specs.declared.command.Command.TheVariants as commands;
 
 use crate::status::Status;
 use crate::working::work_made;

@@ -5,15 +5,15 @@ ghost use Rattle.ca_run.specs.Run.{Wrote, WroteFront};
 ghost use Rattle.ca_run.specs.Status.{is_whole, writes};
 ghost use Rattle.ca_run.specs.declared.status.Status.TheVariants as statuses;
 ghost use Rattle.ca_script.specs.Script.{script_of};
-ghost use Rattle.ca_script_words.specs.declared.cause.ScriptCause.{ScriptCause};
-ghost use Rattle.ca_words.specs.declared.command.Command.TheVariants as commands;
+ghost use Rattle.ca_script_lex.specs.declared.cause.ScriptCause.{ScriptCause};
+ghost use Rattle.ca_run_command.specs.declared.command.Command.TheVariants as commands;
 
 use crate::reading::script_from;
 use crate::status::Status;
 use crate::working::race;
 use ca_base::limits::MAX_SCRIPT_BYTES;
-use ca_output::write_history;
 use ca_outside::{Gate, Sink, Source};
+use ca_trace_output::write_history;
 use std::alloc::Global;
 use std::sync::Wait;
 use std::thread::Threads;

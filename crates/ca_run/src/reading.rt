@@ -4,7 +4,7 @@ ghost use Rattle.ca_run.specs.Run.{IsRead};
 ghost use Rattle.ca_run.specs.Status.{ends_reading};
 ghost use Rattle.ca_run.specs.declared.status.Status.TheVariants as statuses;
 ghost use Rattle.ca_script.specs.Script.{script_of, script_value};
-ghost use Rattle.ca_script_words.specs.declared.cause.ScriptCause.{ScriptCause};
+ghost use Rattle.ca_script_lex.specs.declared.cause.ScriptCause.{ScriptCause};
 
 use crate::status::Status;
 use ca_base::limits::MAX_SCRIPT_BYTES;

@@ -1,12 +1,12 @@
 ghost use Rattle.std.specs.Prelude.{◌≡◌, ◌++◌, OnOk, OnErr, Some};
 ghost use Rattle.ca_run.specs.Status as table;
-ghost use Rattle.ca_race.specs.ca_script_run.Statuses.{status_value};
+ghost use Rattle.ca_run_race.specs.ca_script_run.Statuses.{status_value};
 
 use ca_base::{Memory, QueueId};
-use ca_output::WriteStop;
 use ca_outside::ReadStop;
-use ca_race::ca_script_run;
+use ca_run_race::ca_script_run;
 use ca_script::{ScriptCause, ScriptError};
+use ca_trace_output::WriteStop;
 use std::fmt;
 
 /// How a run of the program ended.

@@ -1,35 +1,35 @@
 ghost use Rattle.std.specs.Prelude.{◌≡◌, ◌<◌, ℕ, List, Ok, IfOk};
-ghost use Rattle.ca_alone_run.specs.Lone.{IsOutcome};
+ghost use Rattle.ca_run_alone.specs.Lone.{IsOutcome};
 ghost use Rattle.ca_isolation.specs.Groups.{group_of};
-ghost use Rattle.ca_made.specs.Made.{made_script};
+ghost use Rattle.ca_script_seed.specs.Made.{made_script};
 ghost use Rattle.ca_model.specs.History.{IsHistory};
-ghost use Rattle.ca_order.specs.Order.{order};
-ghost use Rattle.ca_order.specs.Summary.{summary};
+ghost use Rattle.ca_script_order.specs.Order.{order};
+ghost use Rattle.ca_script_order.specs.Summary.{summary};
 ghost use Rattle.ca_run.specs.Run.{IsRaced, IsTextOf, IsWorked};
 ghost use Rattle.ca_script.specs.Script.{ScriptValue, script_of, script_value};
-ghost use Rattle.ca_race.specs.ca_script_run.Statuses.{status_value};
-ghost use Rattle.ca_race.specs.ca_script_run.Working.{IsWorkable};
-ghost use Rattle.ca_made.specs.Text.{summary_text};
+ghost use Rattle.ca_run_race.specs.ca_script_run.Statuses.{status_value};
+ghost use Rattle.ca_run_race.specs.ca_script_run.Working.{IsWorkable};
+ghost use Rattle.ca_script_seed.specs.Text.{summary_text};
 ghost use Rattle.ca_trace.specs.Trace.{text};
 
-use ca_alone_run::{Lone, work_alone};
 use ca_base::{DomainId, Memory};
 use ca_law_scripts::{
     histories_of_scripts_are_lawful, orders_of_texts_are_lawful, texts_mean_limited_scripts,
     texts_mean_workable_scripts,
 };
-use ca_make::{Made, make};
 use ca_model::History;
-use ca_order::{
+use ca_outside::Gate;
+use ca_run_alone::{Lone, work_alone};
+use ca_run_race::ca_script_run::{Worked, work_script};
+use ca_run_race::race_script;
+use ca_run_seed::{Made, make};
+use ca_script::Script;
+use ca_script_order::{
     orders_have_their_status, rounds_are_of_their_scripts, rounds_end, rounds_follow_the_machine,
     stages_have_their_status,
 };
-use ca_outside::Gate;
-use ca_race::ca_script_run::{Worked, work_script};
-use ca_race::race_script;
-use ca_reading::ca_reading_fits::history_fits;
-use ca_reading::one_text;
-use ca_script::Script;
+use ca_trace_read::ca_trace_read_fits::history_fits;
+use ca_trace_read::one_text;
 use std::alloc::Global;
 use std::sync::Wait;
 use std::thread::Threads;

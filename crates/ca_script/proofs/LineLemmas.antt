@@ -2,10 +2,10 @@
 use Rattle.std.proofs.Common.{◌≡◌, ℕ, zero, suc, ◌+◌, ◌-◌, ◌<◌, ◌≤◌, true, false, eqb, ltb, List, [], ◌∷◌, ◌++◌, length, get_or, set, Some, None, Ok, Err, refl, ap, arith}
 use Rattle.std.proofs.lemmas.Bool.{lt-ltb, eqb-true}
 use Rattle.std.proofs.lemmas.Bool.Decides.{nat_tests}
-use Rattle.ca_script_lines.specs.ca_reading_words.Words.{next_of}
-use Rattle.ca_script_lines.proofs.of_ca_reading_words.ListLemmas.{next_is, next_none}
-use Rattle.ca_script_lines.specs.ca_script_words.declared.cause.ScriptCause.{ScriptCause}
-use Rattle.ca_script_lines.specs.ca_script_words.declared.cause.ScriptCause.TheVariants.{TooLarge}
+use Rattle.ca_script_lines.specs.ca_trace_lex.Words.{next_of}
+use Rattle.ca_script_lines.proofs.of_ca_trace_lex.ListLemmas.{next_is, next_none}
+use Rattle.ca_script_lines.specs.ca_script_lex.declared.cause.ScriptCause.{ScriptCause}
+use Rattle.ca_script_lines.specs.ca_script_lex.declared.cause.ScriptCause.TheVariants.{TooLarge}
 use Rattle.ca_script_lines.specs.declared.what.Line.{Line}
 use Rattle.ca_script.specs.Script.{Draft, with_line, size_of, after_line, after_lines}
 

@@ -4,12 +4,12 @@ use Rattle.std.specs.List.{list_all}
 use Rattle.ca_base.specs.Configuration.{Configuration, adapter_of, configuration_of}
 use Rattle.ca_base.specs.declared.limits.TheConstants.{MAX_SCRIPT_BYTES, MAX_CONSUMERS}
 use Rattle.ca_mailbox.specs.declared.weather.Weather.{Weather}
-use Rattle.ca_script_lines.specs.ca_reading_words.Words.{pieces}
-use Rattle.ca_script_lines.specs.ca_script_words.Reading.{◌>>=◌, IsRefusalOf}
-use Rattle.ca_script_lines.specs.ca_script_words.Words.{words_of, is_consumer, limited}
-use Rattle.ca_script_lines.specs.ca_script_words.declared.cause.ScriptCause.{ScriptCause}
-use Rattle.ca_script_lines.specs.ca_script_words.declared.line_error.LineError.{LineError}
-use Rattle.ca_script_lines.specs.ca_script_words.declared.cause.ScriptCause.TheVariants as causes
+use Rattle.ca_script_lines.specs.ca_trace_lex.Words.{pieces}
+use Rattle.ca_script_lines.specs.ca_script_lex.Reading.{◌>>=◌, IsRefusalOf}
+use Rattle.ca_script_lines.specs.ca_script_lex.Words.{words_of, is_consumer, limited}
+use Rattle.ca_script_lines.specs.ca_script_lex.declared.cause.ScriptCause.{ScriptCause}
+use Rattle.ca_script_lines.specs.ca_script_lex.declared.line_error.LineError.{LineError}
+use Rattle.ca_script_lines.specs.ca_script_lex.declared.cause.ScriptCause.TheVariants as causes
 use Rattle.ca_script_lines.specs.Grammar.{consumer_lines}
 use Rattle.ca_script_lines.specs.Rows.{Words, read_table}
 use Rattle.ca_script_lines.specs.declared.what.Line.{Line}

@@ -10,10 +10,10 @@ use Rattle.ca_mailbox.specs.declared.weather.Weather.{Weather}
 use Rattle.ca_mailbox.specs.declared.weather.Weather.TheVariants.{Calm, Listed, Seeded}
 use Rattle.ca_mailbox.specs.declared.weather.WeatherLine.{WeatherLine}
 use Rattle.ca_mailbox.specs.declared.weather.WeatherLine.TheVariants as lines
-use Rattle.ca_script_lines.specs.ca_script_words.Kinds.{Number, OfQueue, u64}
-use Rattle.ca_script_lines.specs.ca_script_words.Reading.{field}
-use Rattle.ca_script_lines.specs.ca_script_words.Words.{number}
-use Rattle.ca_script_lines.specs.ca_script_words.declared.cause.ScriptCause.{ScriptCause}
+use Rattle.ca_script_lines.specs.ca_script_lex.Kinds.{Number, OfQueue, u64}
+use Rattle.ca_script_lines.specs.ca_script_lex.Reading.{field}
+use Rattle.ca_script_lines.specs.ca_script_lex.Words.{number}
+use Rattle.ca_script_lines.specs.ca_script_lex.declared.cause.ScriptCause.{ScriptCause}
 use Rattle.ca_script_lines.specs.Rows.{Words, Row, Takes, Makes, read_table, one_of}
 use Rattle.ca_script.specs.declared.setting.Setting.{Setting}
 use Rattle.ca_script.specs.declared.setting.Setting.TheVariants as settings

@@ -19,7 +19,7 @@ mod setup;
 mod setup_line;
 
 pub use ca_mailbox::{Weather, WeatherLine, WeatherList};
-pub use ca_script_lines::ca_script_words::ScriptCause;
+pub use ca_script_lines::ca_script_lex::ScriptCause;
 pub use ca_script_lines::{Line, What};
 pub use read::read_script;
 pub use script::{Consumers, Lines, Script};

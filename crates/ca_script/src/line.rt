@@ -4,14 +4,14 @@ ghost use Rattle.ca_script.specs.Script as script;
 ghost use Rattle.ca_script.specs.Script.{Leaves};
 ghost use Rattle.ca_script_lines.specs.Grammar.{consumer_lines};
 ghost use Rattle.ca_script_lines.specs.Rows.{read_table};
-ghost use Rattle.ca_script_lines.specs.ca_script_words.Reading.{Answers};
-ghost use Rattle.ca_script_lines.specs.ca_script_words.Words.{words_of};
+ghost use Rattle.ca_script_lines.specs.ca_script_lex.Reading.{Answers};
+ghost use Rattle.ca_script_lines.specs.ca_script_lex.Words.{words_of};
 
 use crate::draft::{ScriptSoFar, add_line};
 use crate::setting::is_setup_word;
 use crate::setup_line::read_setup_line;
 use ca_base::limits::MAX_CONSUMERS;
-use ca_script_lines::ca_script_words::{
+use ca_script_lines::ca_script_lex::{
     LineError, LineWords, ScriptCause, consumer_number, is_consumer,
 };
 use ca_script_lines::{Line, What, take_what};

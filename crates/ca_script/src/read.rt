@@ -8,8 +8,8 @@ use crate::line::read_line;
 use crate::script::Script;
 use crate::script_error::ScriptError;
 use ca_base::limits::MAX_SCRIPT_BYTES;
-use ca_script_lines::ca_reading_words::Pieces;
-use ca_script_lines::ca_script_words::{LineError, ScriptCause};
+use ca_script_lines::ca_script_lex::{LineError, ScriptCause};
+use ca_script_lines::ca_trace_lex::Pieces;
 use std::alloc::Global;
 
 /// The bytes of a line with its line feed; the last has none.

@@ -2,7 +2,7 @@ ghost use Rattle.std.specs.Prelude.{◌≡◌};
 ghost use Rattle.ca_script.specs.declared.script_error.ScriptError.TheVariants as errors;
 
 use ca_base::Memory;
-use ca_script_lines::ca_script_words::ScriptCause;
+use ca_script_lines::ca_script_lex::ScriptCause;
 
 /// Why a text is not read as a script.
 #[derive(Clone, Copy)]

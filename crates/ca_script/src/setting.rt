@@ -1,7 +1,7 @@
 ghost use Rattle.std.specs.Prelude.{◌≡◌};
 ghost use Rattle.ca_script.specs.Setup as setup;
 ghost use Rattle.ca_script_lines.specs.Rows.{read_row, read_table};
-ghost use Rattle.ca_script_lines.specs.ca_script_words.Reading.{AnswersFrom};
+ghost use Rattle.ca_script_lines.specs.ca_script_lex.Reading.{AnswersFrom};
 
 use ca_base::Lot;
 use ca_base::limits::{
@@ -9,10 +9,10 @@ use ca_base::limits::{
     MAX_SRQS, MAX_WINDOWS,
 };
 use ca_mailbox::WeatherLine;
-use ca_script_lines::ca_reading_words::is_name;
-use ca_script_lines::ca_script_words::{
+use ca_script_lines::ca_script_lex::{
     LineError, LineWords, ScriptCause, take_number, take_queue, take_u64,
 };
+use ca_script_lines::ca_trace_lex::is_name;
 
 /// How many domains an adapter has, and how many slots of each kind a domain has.
 #[derive(Clone, Copy)]

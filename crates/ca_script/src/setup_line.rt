@@ -4,8 +4,8 @@ ghost use Rattle.ca_script.specs.Script as script;
 ghost use Rattle.ca_script.specs.Script.{Leaves};
 ghost use Rattle.ca_script.specs.Setup as setup;
 ghost use Rattle.ca_script_lines.specs.Rows.{read_table};
-ghost use Rattle.ca_script_lines.specs.ca_script_words.Reading.{Answers, field};
-ghost use Rattle.ca_script_lines.specs.ca_script_words.Words.{words_of, number};
+ghost use Rattle.ca_script_lines.specs.ca_script_lex.Reading.{Answers, field};
+ghost use Rattle.ca_script_lines.specs.ca_script_lex.Words.{words_of, number};
 
 use crate::room::fits;
 use crate::setting::{Setting, take_setting};
@@ -13,8 +13,8 @@ use crate::setup::{SetupSoFar, add_buffer, plain_adapters, set_slots};
 use ca_base::limits::{MAX_ADAPTERS, MAX_PARTS, MAX_TOTAL_BYTES};
 use ca_base::{Memory, part_count};
 use ca_mailbox::{Weather, WeatherLine, WeatherList};
-use ca_script_lines::ca_reading_words::is_name;
-use ca_script_lines::ca_script_words::{LineError, LineWords, ScriptCause, take_u8};
+use ca_script_lines::ca_script_lex::{LineError, LineWords, ScriptCause, take_u8};
+use ca_script_lines::ca_trace_lex::is_name;
 use std::alloc::Global;
 
 /// Whether an adapter is among those that have their slots.

@@ -5,9 +5,9 @@ use Rattle.ca_base.specs.declared.change.Change.{Change}
 use Rattle.ca_base.specs.declared.change.Change.TheVariants as changes
 use Rattle.ca_base.specs.declared.request.SendOp.{SendOp}
 use Rattle.ca_base.specs.declared.request.SendOp.TheVariants as ops
-use Rattle.ca_script_words.specs.ca_model.declared.verb.Verb.{Verb}
-use Rattle.ca_script_words.specs.ca_model.declared.verb.Verb.TheVariants as verbs
-use Rattle.ca_script_words.specs.Kinds.{Kind, Optional, OfDomain, OfSlot, OfQueue, OfBuffer, Hex, OfFlags, OfRights, OfPieces, OfPages, u8, u16, u32, u64}
+use Rattle.ca_script_lex.specs.ca_model.declared.verb.Verb.{Verb}
+use Rattle.ca_script_lex.specs.ca_model.declared.verb.Verb.TheVariants as verbs
+use Rattle.ca_script_lex.specs.Kinds.{Kind, Optional, OfDomain, OfSlot, OfQueue, OfBuffer, Hex, OfFlags, OfRights, OfPieces, OfPages, u8, u16, u32, u64}
 use Rattle.ca_script_lines.specs.Rows.{Row, Takes, Makes, read_table, one_of}
 use Rattle.ca_script_lines.specs.declared.what.What.{What}
 use Rattle.ca_script_lines.specs.declared.what.What.TheVariants as whats

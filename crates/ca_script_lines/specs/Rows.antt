@@ -2,10 +2,10 @@
 -- Contracts cite it.
 use Rattle.std.specs.Prelude.{ℕ, if◌then◌else◌, List, [], ◌∷◌, Result, Ok, Err}
 use Rattle.std.specs.Str.{bytes_eq}
-use Rattle.ca_script_words.specs.Kinds.{Kind, ValueOf, word_of}
-use Rattle.ca_script_words.specs.Reading.{◌>>=◌, first_word, field}
-use Rattle.ca_script_words.specs.declared.cause.ScriptCause.{ScriptCause}
-use Rattle.ca_script_words.specs.declared.cause.ScriptCause.TheVariants.{UnknownWord}
+use Rattle.ca_script_lex.specs.Kinds.{Kind, ValueOf, word_of}
+use Rattle.ca_script_lex.specs.Reading.{◌>>=◌, first_word, field}
+use Rattle.ca_script_lex.specs.declared.cause.ScriptCause.{ScriptCause}
+use Rattle.ca_script_lex.specs.declared.cause.ScriptCause.TheVariants.{UnknownWord}
 
 -- the words that are left
 abbrev pub Words : Type 0

@@ -1,13 +1,13 @@
 ghost use Rattle.ca_script_lines.specs.Grammar as grammar;
 ghost use Rattle.ca_script_lines.specs.Rows.{read_row, read_named};
-ghost use Rattle.ca_script_words.specs.Reading.{AnswersFrom};
+ghost use Rattle.ca_script_lex.specs.Reading.{AnswersFrom};
 
 use crate::what::What;
 use crate::work::work_line;
 use ca_base::Change;
-use ca_script_words::ca_model::Verb;
-use ca_script_words::ca_reading_words::is_name;
-use ca_script_words::{LineError, LineWords, take_queue, take_slot, take_u8, take_u16, take_u32};
+use ca_script_lex::ca_model::Verb;
+use ca_script_lex::ca_trace_lex::is_name;
+use ca_script_lex::{LineError, LineWords, take_queue, take_slot, take_u8, take_u16, take_u32};
 use std::alloc::Global;
 
 /// To Init.

@@ -13,7 +13,7 @@ mod operation;
 mod what;
 mod work;
 
-pub use ca_script_words;
-pub use ca_script_words::ca_reading_words;
+pub use ca_script_lex;
+pub use ca_script_lex::ca_trace_lex;
 pub use line::take_what;
 pub use what::{Line, What};

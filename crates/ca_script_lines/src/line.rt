@@ -1,12 +1,12 @@
 ghost use Rattle.ca_script_lines.specs.Grammar as grammar;
 ghost use Rattle.ca_script_lines.specs.Rows.{read_table};
-ghost use Rattle.ca_script_words.specs.Reading.{AnswersFrom};
+ghost use Rattle.ca_script_lex.specs.Reading.{AnswersFrom};
 
 use crate::object::named_line;
 use crate::what::What;
 use crate::work::post;
-use ca_script_words::ca_reading_words::is_name;
-use ca_script_words::{LineError, LineWords};
+use ca_script_lex::ca_trace_lex::is_name;
+use ca_script_lex::{LineError, LineWords};
 use std::alloc::Global;
 
 /// What a consumer's line says behind its first word. The words that are left stand behind it. Most lines of a script

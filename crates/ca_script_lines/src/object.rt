@@ -1,12 +1,12 @@
 ghost use Rattle.ca_script_lines.specs.Grammar as grammar;
 ghost use Rattle.ca_script_lines.specs.Rows.{read_row, read_named};
-ghost use Rattle.ca_script_words.specs.Reading.{AnswersFrom};
+ghost use Rattle.ca_script_lex.specs.Reading.{AnswersFrom};
 
 use crate::change::change_line;
 use crate::what::What;
-use ca_script_words::ca_model::Verb;
-use ca_script_words::ca_reading_words::is_name;
-use ca_script_words::{
+use ca_script_lex::ca_model::Verb;
+use ca_script_lex::ca_trace_lex::is_name;
+use ca_script_lex::{
     LineError, LineWords, take_domain, take_optional_u16, take_rights, take_slot, take_u8,
     take_u16, take_u32,
 };

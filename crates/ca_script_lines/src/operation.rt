@@ -1,10 +1,10 @@
 ghost use Rattle.ca_script_lines.specs.Grammar as grammar;
 ghost use Rattle.ca_script_lines.specs.Rows.{read_row, read_named, read_table};
-ghost use Rattle.ca_script_words.specs.Reading.{AnswersFrom};
+ghost use Rattle.ca_script_lex.specs.Reading.{AnswersFrom};
 
 use ca_base::{Key, SendOp};
-use ca_script_words::ca_reading_words::is_name;
-use ca_script_words::{
+use ca_script_lex::ca_trace_lex::is_name;
+use ca_script_lex::{
     LineError, LineWords, ScriptCause, take_pages, take_pieces, take_rights, take_u8, take_u16,
     take_u32, take_u64,
 };

@@ -1,4 +1,4 @@
-use ca_script_words::ca_model::Verb;
+use ca_script_lex::ca_model::Verb;
 
 /// What a line of a consumer says: a verb that it calls, or the clock from which on it goes on.
 #[derive(Drop)]

@@ -1,13 +1,13 @@
 ghost use Rattle.ca_script_lines.specs.Grammar as grammar;
 ghost use Rattle.ca_script_lines.specs.Rows.{read_row, read_named};
-ghost use Rattle.ca_script_words.specs.Reading.{AnswersFrom};
+ghost use Rattle.ca_script_lex.specs.Reading.{AnswersFrom};
 
 use crate::operation::operation;
 use crate::what::What;
 use ca_base::{RecvRequest, SendRequest};
-use ca_script_words::ca_model::Verb;
-use ca_script_words::ca_reading_words::is_name;
-use ca_script_words::{
+use ca_script_lex::ca_model::Verb;
+use ca_script_lex::ca_trace_lex::is_name;
+use ca_script_lex::{
     LineError, LineWords, ScriptCause, take_buffer, take_flags, take_hex, take_pieces, take_queue,
     take_slot, take_u8, take_u32, take_u64,
 };

@@ -1,8 +1,8 @@
 -- An event that is tried on what is kept does what it does of the stage. For proofs only.
 use Rattle.std.proofs.Common.{◌≡◌, ◌∙◌, refl, sym, ap, subst, ℕ, suc, List, [], ◌∷◌, ◌++◌, length, Ok, Err}
 use Rattle.std.proofs.lemmas.List.{length-reverse, reverse-append}
-use Rattle.ca_replay.proofs.of_ca_law_endings.EventFitLemmas.{event-fits}
-use Rattle.ca_replay.specs.ca_law_endings.Runs.{Comes}
+use Rattle.ca_adapter_store.proofs.of_ca_law_endings.EventFitLemmas.{event-fits}
+use Rattle.ca_adapter_store.specs.ca_law_endings.Runs.{Comes}
 use Rattle.ca_base.specs.declared.step.Reason.{Reason}
 use Rattle.ca_base.specs.declared.step.StepError.TheVariants as steps
 use Rattle.ca_engine.specs.declared.outcome.Outcome as outcomes-of
@@ -13,10 +13,10 @@ use Rattle.ca_model.specs.Marks.{MarkList}
 use Rattle.ca_model.specs.declared.event.Event.{Event}
 use Rattle.ca_model.specs.machine.Plan.{Did, NotReady, Outcome}
 use Rattle.ca_model.specs.machine.Step.{step}
-use Rattle.ca_order.specs.Order.{Stage, after_outcome, at_round}
-use Rattle.ca_replay.specs.Rest.{KeepsRow}
-use Rattle.ca_replay.specs.Rows.{IsMade, IsRow, IsRowOf}
-use Rattle.ca_replay.specs.declared.row.Row.{Row}
+use Rattle.ca_script_order.specs.Order.{Stage, after_outcome, at_round}
+use Rattle.ca_adapter_store.specs.Rest.{KeepsRow}
+use Rattle.ca_adapter_store.specs.Rows.{IsMade, IsRow, IsRowOf}
+use Rattle.ca_adapter_store.specs.declared.row.Row.{Row}
 use Rattle.ca_script.specs.Script.{ScriptValue}
 use Rattle.ca_script_run.specs.Progress.{IsAt, IsLeftBy, IsTried, IsUnderWay, told_of}
 use Rattle.ca_script_run.specs.declared.progress.Progress.{Progress}

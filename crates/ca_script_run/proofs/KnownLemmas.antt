@@ -4,7 +4,7 @@ use Rattle.std.specs.declared.alloc.Global.{Global}
 use Rattle.ca_base.specs.objects.Mailbox.{due}
 use Rattle.ca_engine.specs.declared.offer.Offer.{Offer}
 use Rattle.ca_engine.specs.declared.offer.Offer.TheVariants as offers
-use Rattle.ca_replay.specs.ca_held.declared.part.QueueSlot.{QueueSlot}
+use Rattle.ca_adapter_store.specs.ca_adapter_parts.declared.part.QueueSlot.{QueueSlot}
 use Rattle.ca_keys.specs.Equal.{queue_eq}
 use Rattle.ca_keys.specs.declared.names.QueueId.{QueueId}
 use Rattle.ca_model.proofs.ThingLemmas.{queue-path}
@@ -12,18 +12,18 @@ use Rattle.ca_model.specs.declared.part_name.PartName.{PartName}
 use Rattle.ca_model.specs.declared.part_name.PartName.TheVariants as names
 use Rattle.ca_model.specs.machine.Parts.{is_held, part_eq}
 use Rattle.ca_model.specs.machine.World.{World}
-use Rattle.ca_replay.proofs.RestLemmas.{same_row}
-use Rattle.ca_replay.specs.Hand.{names_of}
-use Rattle.ca_replay.specs.Looks.{IsQueueIn}
-use Rattle.ca_replay.specs.Rest.{KeepsRest}
-use Rattle.ca_replay.specs.declared.hand.Taken.{Taken}
-use Rattle.ca_replay.specs.declared.row.Row.{Row}
+use Rattle.ca_adapter_store.proofs.RestLemmas.{same_row}
+use Rattle.ca_adapter_store.specs.Hand.{names_of}
+use Rattle.ca_adapter_store.specs.Looks.{IsQueueIn}
+use Rattle.ca_adapter_store.specs.Rest.{KeepsRest}
+use Rattle.ca_adapter_store.specs.declared.hand.Taken.{Taken}
+use Rattle.ca_adapter_store.specs.declared.row.Row.{Row}
 use Rattle.ca_script_run.specs.Known.{AreKnown, AreKnownFrom, AreLeft, ComesTo, Forgets, IsLeft, KeepsKnown, is_set, part_of_turn, place_of_turn, start_of}
 use Rattle.ca_script_run.specs.Vain.{IsIdle, Sees}
 use Rattle.ca_script_run.specs.declared.known.Known.{Known}
 use Rattle.ca_script_run.specs.declared.known.TheConstants.{BLOCK}
-use Rattle.ca_places.specs.declared.turn.Turn.{Turn}
-use Rattle.ca_places.specs.declared.turn.Turn.TheVariants as turns
+use Rattle.ca_model_places.specs.declared.turn.Turn.{Turn}
+use Rattle.ca_model_places.specs.declared.turn.Turn.TheVariants as turns
 
 -- ---- flags
 

@@ -2,7 +2,7 @@
 use Rattle.std.proofs.Common.{◌≡◌, ◌∙◌, refl, sym, ap, subst, ℕ, zero, suc, ◌+◌, ◌≤◌, arith, Bool, true, false, true≢false, List, [], ◌∷◌, drop, length, sum_by, Option, None, Some, is_some, slice_get, slice_index, slice_set}
 use Rattle.std.proofs.lemmas.List.{length-drop}
 use Rattle.std.proofs.lemmas.List.Sums.{sum_by-cons}
-use Rattle.ca_order.specs.Order.{HasNoMoreLines, Stage, lines_of}
+use Rattle.ca_script_order.specs.Order.{HasNoMoreLines, Stage, lines_of}
 use Rattle.ca_script.specs.Script.{ScriptValue}
 use Rattle.ca_script_lines.specs.declared.what.Line.{Line}
 use Rattle.ca_script_run.specs.Progress.{IsAt, lines_behind}

@@ -3,9 +3,9 @@ use Rattle.std.proofs.Common.{◌≡◌, ◌∙◌, refl, sym, ap, subst, List, 
 use Rattle.ca_keys.specs.Memory.{ByteMap, zeros}
 use Rattle.ca_keys.specs.declared.memory.Memory.{Memory}
 use Rattle.ca_model.specs.machine.World.{opening_world}
-use Rattle.ca_order.specs.OfScript as machine
-use Rattle.ca_order.specs.Order.{Stage, ending, ending_from, opening_stage, order}
-use Rattle.ca_replay.specs.Rows.{IsRowOf}
+use Rattle.ca_script_order.specs.OfScript as machine
+use Rattle.ca_script_order.specs.Order.{Stage, ending, ending_from, opening_stage, order}
+use Rattle.ca_adapter_store.specs.Rows.{IsRowOf}
 use Rattle.ca_script.specs.Script.{ScriptValue}
 use Rattle.ca_script_lines.specs.declared.what.Line.{Line}
 use Rattle.ca_script_run.specs.Progress.{IsAt, lines_behind}

@@ -12,9 +12,9 @@ use Rattle.ca_engine.specs.declared.pass.Pass.{Pass}
 use Rattle.ca_engine.specs.declared.pass.Pass.TheVariants as passes
 use Rattle.ca_engine.specs.Loop.{is_quiet_offer}
 use Rattle.ca_model.specs.machine.World.{World}
-use Rattle.ca_order.specs.Order.{Stage}
-use Rattle.ca_replay.proofs.RestLemmas.{same_row}
-use Rattle.ca_replay.specs.Rest.{KeepsRest}
+use Rattle.ca_script_order.specs.Order.{Stage}
+use Rattle.ca_adapter_store.proofs.RestLemmas.{same_row}
+use Rattle.ca_adapter_store.specs.Rest.{KeepsRest}
 use Rattle.ca_script.specs.Script.{ScriptValue}
 use Rattle.ca_script_run.proofs.KnownLemmas.{idle-still, left_still}
 use Rattle.ca_script_run.proofs.TurnLemmas.{in_vain}

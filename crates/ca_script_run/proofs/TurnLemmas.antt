@@ -10,11 +10,11 @@ use Rattle.ca_base.specs.declared.step.Reason.TheVariants as reasons
 use Rattle.ca_base.specs.objects.Mailbox.{due}
 use Rattle.ca_base.specs.objects.QueuePair.{NoQueue, Present, QueuePair, QueueSlot}
 use Rattle.ca_base.specs.objects.Slices.{has_queue}
-use Rattle.ca_replay.specs.ca_held.declared.part.QueueSlot as seen
-use Rattle.ca_replay.specs.ca_held.declared.part.QueueSlot.TheVariants as slots
+use Rattle.ca_adapter_store.specs.ca_adapter_parts.declared.part.QueueSlot as seen
+use Rattle.ca_adapter_store.specs.ca_adapter_parts.declared.part.QueueSlot.TheVariants as slots
 use Rattle.ca_keys.specs.Refusals.{first_of}
 use Rattle.ca_keys.specs.declared.names.QueueId.{QueueId}
-use Rattle.ca_replay.proofs.of_ca_law_parts.Numbers.LimitLemmas.{can-step}
+use Rattle.ca_adapter_store.proofs.of_ca_law_parts.Numbers.LimitLemmas.{can-step}
 use Rattle.ca_mailbox.specs.declared.weather.Weather.{Weather}
 use Rattle.ca_model.proofs.PerformLemmas.{around-performs, around_at, queue-performs}
 use Rattle.ca_model.specs.declared.event.Event.TheVariants as events
@@ -27,15 +27,15 @@ use Rattle.ca_model.specs.machine.Row.{NotPossible, Row, Row_plan, plain_row}
 use Rattle.ca_model.specs.machine.Step.{step}
 use Rattle.ca_model.specs.machine.Turns.{Leave_plan, Request_around, Respond_around, has_room_for, respond_plan, request_plan}
 use Rattle.ca_model.specs.machine.World.{World}
-use Rattle.ca_order.specs.OfScript.{is_possible}
-use Rattle.ca_replay.specs.Looks.{IsQueueIn}
-use Rattle.ca_replay.specs.Rows.{IsRow, IsRowOf}
-use Rattle.ca_replay.specs.declared.row.Row as rows
-use Rattle.ca_replay.specs.ca_sending.Turn.{is_performing, turn_row}
+use Rattle.ca_script_order.specs.OfScript.{is_possible}
+use Rattle.ca_adapter_store.specs.Looks.{IsQueueIn}
+use Rattle.ca_adapter_store.specs.Rows.{IsRow, IsRowOf}
+use Rattle.ca_adapter_store.specs.declared.row.Row as rows
+use Rattle.ca_adapter_store.specs.ca_requester_sends.Turn.{is_performing, turn_row}
 use Rattle.ca_script_run.specs.Vain.{CanStepSeen, HasNoQueue, HasNoRequest, IsIdle, IsInVain, OwesNoAnswer, Waits}
-use Rattle.ca_places.specs.Turns.{event_of, lot_at}
-use Rattle.ca_places.specs.declared.turn.Turn.{Turn}
-use Rattle.ca_places.specs.declared.turn.Turn.TheVariants as turns
+use Rattle.ca_model_places.specs.Turns.{event_of, lot_at}
+use Rattle.ca_model_places.specs.declared.turn.Turn.{Turn}
+use Rattle.ca_model_places.specs.declared.turn.Turn.TheVariants as turns
 
 -- ---- whether a queue pair is there
 

@@ -6,15 +6,15 @@ use Rattle.ca_engine.specs.Loop.{outcome_of}
 use Rattle.ca_model.specs.declared.event.Event.{Event}
 use Rattle.ca_model.specs.machine.Plan as plans
 use Rattle.ca_model.specs.machine.Step.{step}
-use Rattle.ca_order.specs.OfScript.{is_possible}
-use Rattle.ca_order.specs.Order.{Stage, after_event, after_outcome, at_round}
-use Rattle.ca_order.specs.Visits as visits
+use Rattle.ca_script_order.specs.OfScript.{is_possible}
+use Rattle.ca_script_order.specs.Order.{Stage, after_event, after_outcome, at_round}
+use Rattle.ca_script_order.specs.Visits as visits
 use Rattle.ca_script.specs.Script.{ScriptValue}
 use Rattle.ca_script_run.specs.Progress.{IsAt, IsVisited}
 use Rattle.ca_script_run.specs.Vain.{IsInVain}
 use Rattle.ca_script_run.specs.declared.progress.Progress.{Progress}
-use Rattle.ca_places.specs.Turns.{event_of}
-use Rattle.ca_places.specs.declared.turn.Turn.{Turn}
+use Rattle.ca_model_places.specs.Turns.{event_of}
+use Rattle.ca_model_places.specs.declared.turn.Turn.{Turn}
 
 module _ (s : ScriptValue) (g : Stage) (turn : Turn) (p : Progress) (count : ℕ) (at : IsAt s g p) (numbered : count ≡ p.row.count) where
   at-round : IsAt s (at_round g) p

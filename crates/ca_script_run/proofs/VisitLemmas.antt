@@ -12,8 +12,8 @@ use Rattle.ca_model.specs.declared.event.Event.TheVariants as events
 use Rattle.ca_model.specs.declared.verb.Verb.{Verb}
 use Rattle.ca_model.specs.machine.Plan as plans
 use Rattle.ca_model.specs.machine.Step.{step}
-use Rattle.ca_order.specs.Order.{Stage, after_event, after_line, after_outcome, at_round, lines_of, with_lines_left}
-use Rattle.ca_order.specs.Visits as visits
+use Rattle.ca_script_order.specs.Order.{Stage, after_event, after_line, after_outcome, at_round, lines_of, with_lines_left}
+use Rattle.ca_script_order.specs.Visits as visits
 use Rattle.ca_script.specs.Script.{ScriptValue}
 use Rattle.ca_script_lines.specs.declared.what.Line.{Line}
 use Rattle.ca_script_lines.specs.declared.what.What.{What}
@@ -21,8 +21,8 @@ use Rattle.ca_script_lines.specs.declared.what.What.TheVariants as whats
 use Rattle.ca_script_run.proofs.LineLemmas.{line_passed}
 use Rattle.ca_script_run.specs.Progress.{IsAt, IsTried, IsVisited, lines_behind, told_of}
 use Rattle.ca_script_run.specs.declared.progress.Progress.{Progress}
-use Rattle.ca_places.specs.Turns.{event_of}
-use Rattle.ca_places.specs.declared.turn.Turn.{Turn}
+use Rattle.ca_model_places.specs.Turns.{event_of}
+use Rattle.ca_model_places.specs.declared.turn.Turn.{Turn}
 
 abbrev did : Outcome → Bool
 did outcomes.Did = true

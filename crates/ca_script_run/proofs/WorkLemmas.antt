@@ -7,11 +7,11 @@ use Rattle.ca_engine.specs.declared.offer.Offer.TheVariants as offers
 use Rattle.ca_engine.specs.declared.outcome.Outcome.{Outcome}
 use Rattle.ca_engine.proofs.LoopLemmas.{loop-ends-from, loop-made-from}
 use Rattle.ca_engine.specs.Loop.{Work, has_ended, is_quiet_offer, most_offers, visit_of, work_after, work_after_all, work_after_visit, work_from}
-use Rattle.ca_order.specs.OfScript.{status_of}
-use Rattle.ca_order.specs.Order.{HasNoMoreLines, Stage, at_round, ending_from, has_no_event_left}
-use Rattle.ca_order.specs.Visits.{Visit}
-use Rattle.ca_order.specs.Visits as visits
-use Rattle.ca_replay.specs.Rows.{IsRowOf}
+use Rattle.ca_script_order.specs.OfScript.{status_of}
+use Rattle.ca_script_order.specs.Order.{HasNoMoreLines, Stage, at_round, ending_from, has_no_event_left}
+use Rattle.ca_script_order.specs.Visits.{Visit}
+use Rattle.ca_script_order.specs.Visits as visits
+use Rattle.ca_adapter_store.specs.Rows.{IsRowOf}
 use Rattle.ca_script.specs.Script.{ScriptValue}
 use Rattle.ca_script_run.proofs.LineLemmas.{few_lines}
 use Rattle.ca_script_run.specs.Progress.{IsAt, IsVisited}

@@ -12,13 +12,13 @@ use Rattle.ca_model.specs.declared.part_name.PartName.{PartName}
 use Rattle.ca_model.specs.declared.part_name.PartName.TheVariants as names
 use Rattle.ca_model.specs.machine.Parts.{is_held}
 use Rattle.ca_model.specs.machine.World.{World}
-use Rattle.ca_replay.specs.Rows.{IsRowOf}
-use Rattle.ca_replay.specs.declared.row.Row.{Row}
+use Rattle.ca_adapter_store.specs.Rows.{IsRowOf}
+use Rattle.ca_adapter_store.specs.declared.row.Row.{Row}
 use Rattle.ca_script_run.specs.Vain.{IsIdle}
 use Rattle.ca_script_run.specs.declared.known.Known.{Known}
 use Rattle.ca_script_run.specs.declared.known.TheConstants.{BLOCK}
-use Rattle.ca_places.specs.declared.turn.Turn.{Turn}
-use Rattle.ca_places.specs.declared.turn.Turn.TheVariants as turns
+use Rattle.ca_model_places.specs.declared.turn.Turn.{Turn}
+use Rattle.ca_model_places.specs.declared.turn.Turn.TheVariants as turns
 
 -- ---- places
 

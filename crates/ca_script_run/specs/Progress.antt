@@ -5,12 +5,12 @@ use Rattle.ca_engine.specs.declared.outcome.Outcome.TheVariants as outcomes
 use Rattle.ca_engine.specs.Loop.{outcome_of}
 use Rattle.ca_keys.specs.declared.memory.Memory.{Memory}
 use Rattle.ca_model.specs.declared.event.Event.{Event}
-use Rattle.ca_order.specs.Order.{Stage, after_event, after_visit, at_round}
-use Rattle.ca_order.specs.Visits.{Visit}
-use Rattle.ca_replay.specs.Hand.{names_of}
-use Rattle.ca_replay.specs.Rest.{KeepsRow}
-use Rattle.ca_replay.specs.Rows.{IsRowOf}
-use Rattle.ca_replay.specs.declared.row.Row.{Row}
+use Rattle.ca_script_order.specs.Order.{Stage, after_event, after_visit, at_round}
+use Rattle.ca_script_order.specs.Visits.{Visit}
+use Rattle.ca_adapter_store.specs.Hand.{names_of}
+use Rattle.ca_adapter_store.specs.Rest.{KeepsRow}
+use Rattle.ca_adapter_store.specs.Rows.{IsRowOf}
+use Rattle.ca_adapter_store.specs.declared.row.Row.{Row}
 use Rattle.ca_script.specs.Script.{ScriptValue}
 use Rattle.ca_script_lines.specs.declared.what.Line.{Line}
 use Rattle.ca_script_run.specs.declared.progress.Progress.{Progress}

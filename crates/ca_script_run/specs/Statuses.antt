@@ -1,6 +1,6 @@
 -- What contracts see of a status. Contracts cite it.
 use Rattle.std.specs.Prelude.{ℕ, List, [], ◌∷◌, Option, None, Some}
-use Rattle.ca_order.specs.OfScript as machine
+use Rattle.ca_script_order.specs.OfScript as machine
 use Rattle.ca_script_lines.specs.declared.what.Line.{Line}
 use Rattle.ca_script_run.specs.declared.status.Status.{Status}
 use Rattle.ca_script_run.specs.declared.status.Status.TheVariants as statuses

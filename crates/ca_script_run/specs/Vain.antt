@@ -4,20 +4,20 @@ use Rattle.ca_base.specs.Configuration.{Configuration}
 use Rattle.ca_base.specs.declared.step.Reason.{Reason}
 use Rattle.ca_base.specs.objects.Mailbox.{due}
 use Rattle.ca_base.specs.objects.QueuePair.{QueuePair}
-use Rattle.ca_replay.specs.ca_held.declared.part.QueueSlot.{QueueSlot}
-use Rattle.ca_replay.specs.ca_held.declared.part.QueueSlot.TheVariants as slots
+use Rattle.ca_adapter_store.specs.ca_adapter_parts.declared.part.QueueSlot.{QueueSlot}
+use Rattle.ca_adapter_store.specs.ca_adapter_parts.declared.part.QueueSlot.TheVariants as slots
 use Rattle.ca_keys.specs.declared.names.QueueId.{QueueId}
 use Rattle.ca_mailbox.specs.declared.weather.Weather.{Weather}
 use Rattle.ca_model.specs.declared.event.Event.{Event}
 use Rattle.ca_model.specs.machine.CanStep.{CanStep}
 use Rattle.ca_model.specs.machine.Step.{step}
 use Rattle.ca_model.specs.machine.World.{World}
-use Rattle.ca_order.specs.OfScript.{is_possible}
-use Rattle.ca_replay.specs.Looks.{IsQueueIn}
-use Rattle.ca_replay.specs.ca_sending.Turn.{IsWaiting}
-use Rattle.ca_places.specs.Turns.{event_of}
-use Rattle.ca_places.specs.declared.turn.Turn.{Turn}
-use Rattle.ca_places.specs.declared.turn.Turn.TheVariants as turns
+use Rattle.ca_script_order.specs.OfScript.{is_possible}
+use Rattle.ca_adapter_store.specs.Looks.{IsQueueIn}
+use Rattle.ca_adapter_store.specs.ca_requester_sends.Turn.{IsWaiting}
+use Rattle.ca_model_places.specs.Turns.{event_of}
+use Rattle.ca_model_places.specs.declared.turn.Turn.{Turn}
+use Rattle.ca_model_places.specs.declared.turn.Turn.TheVariants as turns
 
 -- an engine may take a step with the queue pair that is seen, if one is
 abbrev pub CanStepSeen : Option QueueSlot → Type 0

@@ -7,8 +7,8 @@ use Rattle.ca_engine.specs.declared.outcome.Outcome.{Outcome}
 use Rattle.ca_engine.specs.Loop.{Work, has_ended, most_offers, work_after_all, work_from}
 use Rattle.ca_keys.specs.declared.memory.Memory.{Memory}
 use Rattle.ca_model.specs.machine.Sound.{AreLimited}
-use Rattle.ca_order.specs.Order.{Stage}
-use Rattle.ca_order.specs.Visits.{Consumer, Engine}
+use Rattle.ca_script_order.specs.Order.{Stage}
+use Rattle.ca_script_order.specs.Visits.{Consumer, Engine}
 use Rattle.ca_script.specs.Script.{ScriptValue}
 use Rattle.ca_script_run.specs.Known.{AreKnown}
 use Rattle.ca_script_run.specs.Progress.{IsAt, IsVisited}

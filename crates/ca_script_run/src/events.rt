@@ -1,5 +1,5 @@
 ghost use Rattle.std.specs.Prelude.{◌≡◌, ◌-◌, ◌<◌, ◌^◌, List, OnOk};
-ghost use Rattle.ca_order.specs.Order.{Stage};
+ghost use Rattle.ca_script_order.specs.Order.{Stage};
 ghost use Rattle.ca_script.specs.Script.{ScriptValue};
 ghost use Rattle.ca_engine.specs.declared.offer.Offer.{Offer};
 ghost use Rattle.ca_script_run.specs.Known.{KeepsKnown};

@@ -3,18 +3,18 @@ ghost use Rattle.ca_engine.specs.declared.offer.Offer.{Offer};
 ghost use Rattle.ca_engine.specs.declared.offer.Offer.TheVariants as offers;
 ghost use Rattle.ca_model.specs.declared.part_name.PartName.{PartName};
 ghost use Rattle.ca_model.specs.machine.World.{World};
-ghost use Rattle.ca_replay.specs.Hand.{names_of};
-ghost use Rattle.ca_replay.specs.Rest.{KeepsRest};
+ghost use Rattle.ca_adapter_store.specs.Hand.{names_of};
+ghost use Rattle.ca_adapter_store.specs.Rest.{KeepsRest};
 ghost use Rattle.ca_script_run.specs.Known as places;
 ghost use Rattle.ca_script_run.specs.Known.{AreKnown, AreKnownFrom, AreLeft, ComesTo, Forgets, IsOfferedAt, PassesOver};
 ghost use Rattle.ca_script_run.specs.Vain.{IsIdle};
 
+use ca_adapter_store::Taken;
 use ca_base::limits::MAX_DOMAINS;
 use ca_base::{Config, Memory, QueueId};
 use ca_engine::Engine;
 use ca_model::PartName;
-use ca_places::Turn;
-use ca_replay::Taken;
+use ca_model_places::Turn;
 use std::alloc::Global;
 
 /// So many offers of a round are a block.

@@ -17,8 +17,8 @@ mod turns;
 mod visits;
 mod work;
 
-pub use ca_replay;
-pub use ca_replay::ca_adapter;
+pub use ca_adapter_store;
+pub use ca_adapter_store::ca_adapter;
 pub use progress::Progress;
 pub use status::Status;
 pub use work::{Worked, finish_script, work_script};

@@ -1,5 +1,5 @@
+use ca_adapter_store::Row;
 use ca_model::History;
-use ca_replay::Row;
 
 /// How far a script is worked, by whomever. It is of a stage (`IsAt`) where the three agree.
 #[derive(Drop)]

@@ -1,6 +1,6 @@
 ghost use Rattle.std.specs.Prelude.{◌≡◌, ◌<◌, ◌^◌, drop, length};
-ghost use Rattle.ca_order.specs.OfScript as machine;
-ghost use Rattle.ca_order.specs.Order.{Stage};
+ghost use Rattle.ca_script_order.specs.OfScript as machine;
+ghost use Rattle.ca_script_order.specs.Order.{Stage};
 ghost use Rattle.ca_script.specs.Script.{script_value};
 ghost use Rattle.ca_script_run.specs.Progress.{IsAt, lines_behind};
 ghost use Rattle.ca_script_run.specs.Statuses.{number_awaited, status_value};

@@ -4,18 +4,18 @@ ghost use Rattle.ca_base.specs.Configuration.{Configuration};
 ghost use Rattle.ca_base.specs.objects.Mailbox.{due};
 ghost use Rattle.ca_base.specs.objects.QueuePair.{Present};
 ghost use Rattle.ca_model.specs.machine.World.{World};
-ghost use Rattle.ca_replay.specs.Rows.{IsRow, IsRowOf};
+ghost use Rattle.ca_adapter_store.specs.Rows.{IsRow, IsRowOf};
 ghost use Rattle.ca_script_run.specs.Vain.{CanStepSeen, HasNoQueue, HasNoRequest, IsIdle, OwesNoAnswer};
-ghost use Rattle.ca_places.specs.Turns as turns;
+ghost use Rattle.ca_model_places.specs.Turns as turns;
 
+use ca_adapter_store::Row;
+use ca_adapter_store::ca_adapter_parts::QueueSlot;
+use ca_adapter_store::ca_requester_sends::next_turn;
 use ca_base::{Lot, QueueId};
 use ca_mailbox::Weather;
 use ca_model::Event;
-use ca_places::Turn;
+use ca_model_places::Turn;
 use ca_qpstate::QueuePart;
-use ca_replay::Row;
-use ca_replay::ca_held::QueueSlot;
-use ca_replay::ca_sending::next_turn;
 
 /// Whether a turn is seen at once not to be possible: no queue pair is in its slot, its requester waits, or its responder
 /// owes no answer. So the parts of such a turn need not be taken in hand.

@@ -13,9 +13,9 @@ use Rattle.ca_trace.specs.declared.line.Line.TheVariants as lines
 use Rattle.ca_trace.specs.declared.line.Told.{Told}
 use Rattle.ca_trace.specs.declared.line.Told.TheVariants as told
 use Rattle.ca_trace.specs.Table.{event_words, told_words, got_words, mark_words}
-use Rattle.ca_trace_words.specs.Verbs.{call_words}
+use Rattle.ca_trace_print.specs.Verbs.{call_words}
 use Rattle.ca_trace.specs.Trace.{completions_of}
-use Rattle.ca_trace_words.specs.Words.{Field, Fixed, Number, Lettered, words, joined}
+use Rattle.ca_trace_print.specs.Words.{Field, Fixed, Number, Lettered, words, joined}
 
 -- what the line of a call tells of its answer
 abbrev pub told_of : Answer → Told

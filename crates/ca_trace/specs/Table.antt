@@ -1,5 +1,5 @@
 -- The table of lines: the words of each turn, answer and mark, one row a kind. A call has the words of its verb, which
--- Verbs.antt of ca_trace_words lists. Contracts cite it.
+-- Verbs.antt of ca_trace_print lists. Contracts cite it.
 use Rattle.std.specs.Prelude.{not, List, [], ◌∷◌, ◌++◌, length, codes}
 use Rattle.std.specs.Int.{w8, w16, w32, w64}
 use Rattle.ca_base.specs.declared.completion.Completion.{Completion}
@@ -12,8 +12,8 @@ use Rattle.ca_model.specs.declared.event.Event.{Event}
 use Rattle.ca_model.specs.declared.event.Event.TheVariants as events
 use Rattle.ca_model.specs.declared.mark.Mark.{Mark}
 use Rattle.ca_model.specs.declared.mark.Mark.TheVariants as marks
-use Rattle.ca_trace_words.specs.Verbs.{call_words}
-use Rattle.ca_trace_words.specs.Words.{Field, Fixed, Number, Perhaps, InAdapter, OfDomain, OfQueue, OfQueues, OfKey, PerhapsKey, Address, Hex, OfRights, OfRuns, OfObject, OfSide, OfAlarm, OfKind, OfDenial, OfRefusal, OfLot, OfState, OfOperation, OfStatus, OfCause, OfDrop}
+use Rattle.ca_trace_print.specs.Verbs.{call_words}
+use Rattle.ca_trace_print.specs.Words.{Field, Fixed, Number, Perhaps, InAdapter, OfDomain, OfQueue, OfQueues, OfKey, PerhapsKey, Address, Hex, OfRights, OfRuns, OfObject, OfSide, OfAlarm, OfKind, OfDenial, OfRefusal, OfLot, OfState, OfOperation, OfStatus, OfCause, OfDrop}
 
 -- a call, or a turn
 abbrev pub event_words : Event → List Field

@@ -9,8 +9,8 @@ use Rattle.ca_model.specs.declared.mark.Mark.{Mark}
 use Rattle.ca_model.specs.declared.mark.Mark.TheVariants as marks
 use Rattle.ca_model.specs.Entries.{EntryValue}
 use Rattle.ca_trace.specs.Table.{event_words, told_words, got_words, mark_words}
-use Rattle.ca_trace_words.specs.Verbs.{call_words}
-use Rattle.ca_trace_words.specs.Words.{Field, Fixed, Number, Lettered, words, joined, led}
+use Rattle.ca_trace_print.specs.Verbs.{call_words}
+use Rattle.ca_trace_print.specs.Words.{Field, Fixed, Number, Lettered, words, joined, led}
 
 -- a line of these words, with its line feed
 abbrev pub line : List Field → List ℕ

@@ -1,12 +1,12 @@
 ghost use Rattle.std.specs.Prelude.{◌≡◌, ◌++◌, OnOk};
 ghost use Rattle.std.specs.List.{flat_map};
-ghost use Rattle.ca_trace_words.specs.Words.{led, words};
+ghost use Rattle.ca_trace_print.specs.Words.{led, words};
 ghost use Rattle.ca_trace.specs.Table.{completion_words, told_words};
 ghost use Rattle.ca_trace.specs.Trace.{got_line, got_lines};
 
 use ca_base::{Completion, Memory, Perhaps};
 use ca_model::Answer;
-use ca_trace_words::{Hex, Text, side};
+use ca_trace_print::{Hex, Text, side};
 
 /// Adds what a verb answered, as it stands behind the call, each word after a space.
 pub fn put_answer(text: &mut Text, answer: &Answer) -> Result<(), Memory>

@@ -2,7 +2,7 @@ ghost use Rattle.std.specs.Prelude.{◌≡◌, ◌∷◌, [], ◌++◌, OnOk, On
 ghost use Rattle.std.specs.Int.{w32, w64};
 ghost use Rattle.std.specs.List.{flat_map};
 ghost use Rattle.ca_model.specs.Entries.{entry_of};
-ghost use Rattle.ca_trace_words.specs.Words.{Lettered, joined, led, words};
+ghost use Rattle.ca_trace_print.specs.Words.{Lettered, joined, led, words};
 ghost use Rattle.ca_trace.specs.Table.{event_words};
 ghost use Rattle.ca_trace.specs.Trace.{entry_text, marks_text, mark_text, reply_text};
 
@@ -10,7 +10,7 @@ use crate::answer::{put_answer, put_got_lines};
 use crate::mark::put_mark;
 use ca_base::Memory;
 use ca_model::{Entry, Event, Mark};
-use ca_trace_words::{Text, alarm, put_call};
+use ca_trace_print::{Text, alarm, put_call};
 
 /// Appends the lines of an entry, each with its line feed. `Memory` leaves the output as it was.
 pub fn print(e: &Entry, out: &mut Vec<u8>) -> Result<(), Memory>

@@ -4,7 +4,7 @@ ghost use Rattle.ca_trace.specs.Trace.{end_text, text};
 use crate::entry::print;
 use ca_base::Memory;
 use ca_model::History;
-use ca_trace_words::Text;
+use ca_trace_print::Text;
 
 /// Appends the text of a history: the lines of all entries in order, and the line that tells how many there are.
 /// `Memory` leaves the output as it was.

@@ -13,7 +13,7 @@ mod history;
 mod line;
 mod mark;
 
-pub use ca_trace_words::print_call;
+pub use ca_trace_print::print_call;
 pub use entry::{print, print_reply};
 pub use history::print_history;
 pub use line::{Line, Told, print_line, prints_as};

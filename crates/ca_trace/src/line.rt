@@ -1,6 +1,6 @@
 ghost use Rattle.std.specs.Prelude.{◌≡◌, ◌++◌, IfOk, OnOk, OnErr};
 ghost use Rattle.std.specs.Str.{bytes_eq};
-ghost use Rattle.ca_trace_words.specs.Words.{led, words};
+ghost use Rattle.ca_trace_print.specs.Words.{led, words};
 ghost use Rattle.ca_trace.specs.Lines.{answer_line_words, line_text};
 
 use crate::answer::{put_answer, put_completion};
@@ -8,7 +8,7 @@ use crate::entry::{put_event, put_stamp};
 use crate::mark::put_mark;
 use ca_base::{Completion, Memory};
 use ca_model::{Answer, Event, Mark, Verb};
-use ca_trace_words::{Text, put_call};
+use ca_trace_print::{Text, put_call};
 use std::alloc::Global;
 
 /// What the line of a call tells of its answer: all of it, or how many completions a poll gave, which have lines of

@@ -1,13 +1,13 @@
 ghost use Rattle.std.specs.Prelude.{◌≡◌, [], ◌∷◌, ◌++◌, codes, OnOk};
 ghost use Rattle.std.specs.Int.{w32};
-ghost use Rattle.ca_trace_words.specs.Words as fields;
-ghost use Rattle.ca_trace_words.specs.Words.{Fixed, OfDomain, OfKey, OfKind, OfQueue, Number, led, words};
+ghost use Rattle.ca_trace_print.specs.Words as fields;
+ghost use Rattle.ca_trace_print.specs.Words.{Fixed, OfDomain, OfKey, OfKind, OfQueue, Number, led, words};
 ghost use Rattle.ca_trace.specs.Table.{mark_words, verdict_words, granted_words};
 
 use crate::answer::{put_answer, put_completion};
 use ca_base::{Address, DomainId, Grant, Key, Kind, Memory, Perhaps, QueueId, Verdict};
 use ca_model::Mark;
-use ca_trace_words::{Hex, InAdapter, Queues, Text, alarm, object};
+use ca_trace_print::{Hex, InAdapter, Queues, Text, alarm, object};
 
 /// Adds the words of a mark, each after a space.
 pub fn put_mark(text: &mut Text, mark: &Mark) -> Result<(), Memory>

@@ -1,27 +1,27 @@
 -- An event that is acted with the parts in hand is one step of the machine after every list for which they stand. For proofs
 -- only.
 use Rattle.std.proofs.Common.{◌≡◌, ◌∙◌, refl, sym, ap, subst, ℕ, ◌≤◌, arith, Bool, true, false, List, [], ◌∷◌, ◌++◌, length, Option, None, Some, Result, Ok, Err}
-use Rattle.ca_taking.specs.ca_acts.Act.{Acts, IsAct}
-use Rattle.ca_taking.specs.ca_acts.Steps.{IsStepOf, LeavesUnheld, Shows}
-use Rattle.ca_taking.proofs.of_ca_adapter.WorldLemmas.{part-of-held}
-use Rattle.ca_taking.specs.ca_adapter.Ready.{IsReady}
+use Rattle.ca_verbs_taking.specs.ca_adapter_acts.Act.{Acts, IsAct}
+use Rattle.ca_verbs_taking.specs.ca_adapter_acts.Steps.{IsStepOf, LeavesUnheld, Shows}
+use Rattle.ca_verbs_taking.proofs.of_ca_adapter.WorldLemmas.{part-of-held}
+use Rattle.ca_verbs_taking.specs.ca_adapter.Ready.{IsReady}
 use Rattle.ca_base.specs.Configuration.{configuration_in}
 use Rattle.ca_base.specs.declared.settings.Settings.{Settings}
 use Rattle.ca_base.specs.declared.step.Reason.TheVariants as reasons
 use Rattle.ca_base.specs.declared.step.StepError.{StepError}
 use Rattle.ca_base.specs.declared.step.StepError.TheVariants as steps
-use Rattle.ca_fabric_machine.specs.After.{IsStep, IsUp, next_world, world_after, world_left}
-use Rattle.ca_fabric_machine.specs.Asks.{asked_needs}
-use Rattle.ca_fabric_machine.specs.Laws.{none-needed}
-use Rattle.ca_fabric_machine.specs.Meanings.{CanFollow, StandsFor, next_of}
-use Rattle.ca_fabric_machine.specs.Places.{event-enough}
-use Rattle.ca_fabric_machine.specs.Steps.{from-more, up-before, up-world}
-use Rattle.ca_fabric_machine.specs.Values.{PartValue, has_byte, thing_in}
-use Rattle.ca_fabric_machine.specs.declared.asked.Asked.{Asked}
-use Rattle.ca_fabric_machine.specs.declared.asked.Asked.TheVariants as asks
-use Rattle.ca_fabric_machine.specs.declared.asked.Told.{Told}
-use Rattle.ca_held.specs.declared.held.Held.{Held}
-use Rattle.ca_held.specs.HeldView.{Holding, holding}
+use Rattle.ca_verbs_machine.specs.After.{IsStep, IsUp, next_world, world_after, world_left}
+use Rattle.ca_verbs_machine.specs.Asks.{asked_needs}
+use Rattle.ca_verbs_machine.specs.Laws.{none-needed}
+use Rattle.ca_verbs_machine.specs.Meanings.{CanFollow, StandsFor, next_of}
+use Rattle.ca_verbs_machine.specs.Places.{event-enough}
+use Rattle.ca_verbs_machine.specs.Steps.{from-more, up-before, up-world}
+use Rattle.ca_verbs_machine.specs.Values.{PartValue, has_byte, thing_in}
+use Rattle.ca_verbs_machine.specs.declared.asked.Asked.{Asked}
+use Rattle.ca_verbs_machine.specs.declared.asked.Asked.TheVariants as asks
+use Rattle.ca_verbs_machine.specs.declared.asked.Told.{Told}
+use Rattle.ca_adapter_parts.specs.declared.held.Held.{Held}
+use Rattle.ca_adapter_parts.specs.HeldView.{Holding, holding}
 use Rattle.ca_keys.specs.Memory.{zeros}
 use Rattle.ca_keys.specs.declared.place.Place.{Place}
 use Rattle.ca_law_parts.specs.Placed.{is_configured}
@@ -38,17 +38,17 @@ use Rattle.ca_parts.specs.Calls.{MayStamp, Sees}
 use Rattle.ca_parts.specs.Hands.{AllStand}
 use Rattle.ca_parts.specs.Lists.{Has}
 use Rattle.ca_parts.specs.Views.{with_entry}
-use Rattle.ca_places.proofs.AmongLemmas.{place-apart}
-use Rattle.ca_taking.proofs.HandLemmas.{IsNamed, held-shown, named, same-numbers}
-use Rattle.ca_taking.proofs.SeenLemmas.{parts-of-world, seen-world}
-use Rattle.ca_taking.specs.Holding.{AreShown, IsHolding, Known, hand_of}
-use Rattle.ca_taking.specs.declared.in_hand.InHand.{InHand}
-use Rattle.ca_taking.specs.Taking.{SameRecord, TookAll, WasStopped}
-use Rattle.ca_taking.specs.declared.take_error.TakeError.{TakeError}
-use Rattle.ca_taking.specs.declared.take_error.TakeError.TheVariants as takes
+use Rattle.ca_model_places.proofs.AmongLemmas.{place-apart}
+use Rattle.ca_verbs_taking.proofs.HandLemmas.{IsNamed, held-shown, named, same-numbers}
+use Rattle.ca_verbs_taking.proofs.SeenLemmas.{parts-of-world, seen-world}
+use Rattle.ca_verbs_taking.specs.Holding.{AreShown, IsHolding, Known, hand_of}
+use Rattle.ca_verbs_taking.specs.declared.in_hand.InHand.{InHand}
+use Rattle.ca_verbs_taking.specs.Taking.{SameRecord, TookAll, WasStopped}
+use Rattle.ca_verbs_taking.specs.declared.take_error.TakeError.{TakeError}
+use Rattle.ca_verbs_taking.specs.declared.take_error.TakeError.TheVariants as takes
 use Rattle.ca_mailbox.specs.declared.weather.Weather.{Weather}
-use Rattle.ca_places.specs.Turns.{event_of}
-use Rattle.ca_places.specs.declared.turn.Turn.{Turn}
+use Rattle.ca_model_places.specs.Turns.{event_of}
+use Rattle.ca_model_places.specs.declared.turn.Turn.{Turn}
 use Rattle.ca_verbs.proofs.TurnLemmas.{turn-same}
 use Rattle.ca_verbs.specs.Tried.{IsEventOf, IsMade, IsNotPossible, WasNotMade, WasNotReady, error_of, refusal_of, told_of}
 

@@ -9,11 +9,11 @@ use Rattle.std.specs.Option.{option_map_or}
 use Rattle.std.specs.Prelude.{Ok, ◌-◌, ◌^◌}
 use Rattle.ca_base.specs.Configuration.{configuration_in, part_count}
 use Rattle.ca_base.specs.declared.settings.Settings.{Settings}
-use Rattle.ca_fabric_machine.specs.Steps.{up-follows, up-none, runs-marks}
-use Rattle.ca_fabric_machine.specs.After.{IsUp}
-use Rattle.ca_fabric_machine.specs.Meanings.{CanFollow, StandsFor, next_of}
-use Rattle.ca_fabric_machine.specs.Values.{PartValue}
-use Rattle.ca_fabric_machine.specs.declared.asked.Told.{Told}
+use Rattle.ca_verbs_machine.specs.Steps.{up-follows, up-none, runs-marks}
+use Rattle.ca_verbs_machine.specs.After.{IsUp}
+use Rattle.ca_verbs_machine.specs.Meanings.{CanFollow, StandsFor, next_of}
+use Rattle.ca_verbs_machine.specs.Values.{PartValue}
+use Rattle.ca_verbs_machine.specs.declared.asked.Told.{Told}
 use Rattle.ca_keys.specs.Memory.{zeros}
 use Rattle.ca_model.specs.declared.entry.Entry.{Entry}
 use Rattle.ca_model.specs.declared.event.Event.{Event}
@@ -24,7 +24,7 @@ use Rattle.ca_model.specs.machine.World.{opening_world}
 use Rattle.ca_parts.proofs.Lists.{below_one, bit_other, bit_same, one_below}
 use Rattle.ca_parts.specs.Calls.{IsWhole}
 use Rattle.ca_parts.specs.Lists.{Has, below, bit, numbers_of, times}
-use Rattle.ca_taking.specs.Holding.{Known}
+use Rattle.ca_verbs_taking.specs.Holding.{Known}
 use Rattle.ca_verbs.specs.Closing.{AreRemains, IsFilled, IsHistoryOf, stamped_from, stamps_of}
 use Rattle.ca_verbs.specs.Kept.{Kept, kept_of, told_by}
 

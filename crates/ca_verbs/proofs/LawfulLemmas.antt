@@ -7,7 +7,7 @@ use Rattle.ca_base.specs.Configuration.{configuration_in}
 use Rattle.ca_base.specs.declared.settings.Settings.{Settings}
 use Rattle.ca_law_caused.proofs.of_ca_law_carried.Carried.EndEventLemmas.{whole-along}
 use Rattle.ca_law_caused.proofs.Link.HistoryLemmas.{caused-along}
-use Rattle.ca_fabric_machine.specs.declared.asked.Told.{Told}
+use Rattle.ca_verbs_machine.specs.declared.asked.Told.{Told}
 use Rattle.ca_law_isolation.proofs.AloneLemmas.{alone-goes}
 use Rattle.ca_law_isolation.proofs.of_ca_law_keys.Judged.JudgeEventLemmas.{judged-along}
 use Rattle.ca_keys.specs.Memory.{zeros}
@@ -20,7 +20,7 @@ use Rattle.ca_model.specs.machine.Run.{Follows, run}
 use Rattle.ca_model.specs.machine.Sound.{AreLimited, CanBeMade}
 use Rattle.ca_law_once.proofs.Once.WholeLemmas.{whole-along as once-along}
 use Rattle.ca_law_order.proofs.Ordered.OrderedLemmas.{ordered-along}
-use Rattle.ca_taking.specs.Holding.{Known}
+use Rattle.ca_verbs_taking.specs.Holding.{Known}
 use Rattle.ca_verbs.specs.Closing.{IsHistoryOf, IsLawful, stamped_from}
 use Rattle.ca_verbs.specs.Kept.{Kept, kept_of}
 use Rattle.ca_law_once.proofs.Written.WrittenLemmas.{once-whole, written-whole}

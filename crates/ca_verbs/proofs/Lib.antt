@@ -6,4 +6,4 @@ mod PlacingLemmas
 mod CloseLemmas
 mod LawfulLemmas
 -- The libraries below, handed on to those above.
-pub use Rattle.ca_taking.proofs as of_ca_taking
+pub use Rattle.ca_verbs_taking.proofs as of_ca_verbs_taking

@@ -2,12 +2,12 @@
 use Rattle.std.proofs.Common.{◌≡◌, ◌∙◌, refl, ap, subst, ℕ, List, [], ◌∷◌, ◌++◌, length, Some, slice_get}
 use Rattle.std.specs.Option.{option_and_then}
 use Rattle.ca_base.specs.declared.settings.Settings.{Settings}
-use Rattle.ca_fabric_machine.specs.declared.asked.Asked.{Asked}
+use Rattle.ca_verbs_machine.specs.declared.asked.Asked.{Asked}
 use Rattle.ca_model.specs.Marks.{MarkList}
 use Rattle.ca_model.specs.declared.entry.Entry.{Entry}
 use Rattle.ca_model.specs.declared.event.Event.{Event}
 use Rattle.ca_parts.proofs.Lists.{slice_get_last}
-use Rattle.ca_taking.specs.Holding.{Known}
+use Rattle.ca_verbs_taking.specs.Holding.{Known}
 use Rattle.ca_verbs.specs.Passes.{IsReceipt, known_of}
 use Rattle.ca_verbs.specs.Tried.{IsMade, told_of}
 use Rattle.ca_verbs.specs.declared.pass.Pass.{Pass}

@@ -6,11 +6,11 @@ use Rattle.std.specs.Option.{option_and_then, option_map_or}
 use Rattle.ca_base.specs.Configuration.{Adapter, Configuration, configuration_in, part_count}
 use Rattle.ca_base.specs.declared.settings.Settings.{Settings}
 use Rattle.ca_base.specs.objects.Slices.{adapter_at, buffer_length}
-use Rattle.ca_fabric_machine.specs.Meanings.{StandsFor}
-use Rattle.ca_fabric_machine.specs.Values.{IsPartIn, PartValue, value_of}
-use Rattle.ca_held.specs.declared.part.Part.{Part}
-use Rattle.ca_held.specs.declared.part.Part.TheVariants as parts
-use Rattle.ca_held.specs.Taking.{has_in}
+use Rattle.ca_verbs_machine.specs.Meanings.{StandsFor}
+use Rattle.ca_verbs_machine.specs.Values.{IsPartIn, PartValue, value_of}
+use Rattle.ca_adapter_parts.specs.declared.part.Part.{Part}
+use Rattle.ca_adapter_parts.specs.declared.part.Part.TheVariants as parts
+use Rattle.ca_adapter_parts.specs.Taking.{has_in}
 use Rattle.ca_keys.specs.Memory.{ByteMap, zeros}
 use Rattle.ca_keys.specs.declared.place.Place.{Place}
 use Rattle.ca_law_parts.specs.Placed.{is_configured}
@@ -19,11 +19,11 @@ use Rattle.ca_model.specs.machine.Parts.{part_of}
 use Rattle.ca_model.specs.machine.Sound.{AreLimited}
 use Rattle.ca_model.specs.machine.Step.{bytes_of_buffer}
 use Rattle.ca_model.specs.machine.World.{Byte_at, opening_world}
-use Rattle.ca_opening.proofs.ContentsLemmas.{IsPartOf, get-map, part-of}
-use Rattle.ca_opening.proofs.WorldLemmas.{opening-kind, opening-thing}
-use Rattle.ca_opening.specs.Opening.{FitContents, IsOpeningPart, buffers_before, contents_from, opening_bytes}
-use Rattle.ca_places.specs.Places.{place_of}
-use Rattle.ca_taking.proofs.PartLemmas.{bytes-with, value-with}
+use Rattle.ca_adapter_opening.proofs.ContentsLemmas.{IsPartOf, get-map, part-of}
+use Rattle.ca_adapter_opening.proofs.WorldLemmas.{opening-kind, opening-thing}
+use Rattle.ca_adapter_opening.specs.Opening.{FitContents, IsOpeningPart, buffers_before, contents_from, opening_bytes}
+use Rattle.ca_model_places.specs.Places.{place_of}
+use Rattle.ca_verbs_taking.proofs.PartLemmas.{bytes-with, value-with}
 use Rattle.ca_verbs.specs.Starting.{IsWithin}
 
 -- what stands among the first so many stands there

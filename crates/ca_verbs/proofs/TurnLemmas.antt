@@ -1,7 +1,7 @@
 -- The event that a turn is, by what is held and in a world that shows it. For proofs only.
 use Rattle.std.proofs.Common.{◌≡◌, ◌∙◌, refl, sym, ap, subst, Bool, true, false, Option, None, Some, if◌then◌else◌, true≢false}
 use Rattle.std.proofs.lemmas.Option.{none-some}
-use Rattle.ca_taking.proofs.of_ca_adapter.WorldLemmas.{vacant-there}
+use Rattle.ca_verbs_taking.proofs.of_ca_adapter.WorldLemmas.{vacant-there}
 use Rattle.ca_base.specs.Configuration.{Configuration}
 use Rattle.ca_base.specs.declared.correspondent.Correspondent.{Correspondent}
 use Rattle.ca_base.specs.declared.lot.Lot.{Lot}
@@ -9,9 +9,9 @@ use Rattle.ca_base.specs.declared.lot.Lot.TheVariants.{Pass}
 use Rattle.ca_base.specs.objects.Mailbox.{Mailbox, due, empty_mailbox}
 use Rattle.ca_base.specs.objects.QueuePair.{NoQueue, Present, QueuePair, QueueSlot, queue_in, timers_of, vacant_queue}
 use Rattle.ca_base.specs.objects.Slices.{has_queue}
-use Rattle.ca_fabric_machine.specs.Asks.{due_needs, peer_mail, turn_parts}
-use Rattle.ca_held.specs.declared.held.Held.{Held}
-use Rattle.ca_held.specs.HeldView.{holding}
+use Rattle.ca_verbs_machine.specs.Asks.{due_needs, peer_mail, turn_parts}
+use Rattle.ca_adapter_parts.specs.declared.held.Held.{Held}
+use Rattle.ca_adapter_parts.specs.HeldView.{holding}
 use Rattle.ca_keys.specs.declared.names.QueueId.{QueueId}
 use Rattle.ca_law_parts.specs.Placed.{IsPlacedWorld}
 use Rattle.ca_law_parts.proofs.Parts.NeedsLemmas.{none-decided, none-first}
@@ -23,10 +23,10 @@ use Rattle.ca_model.specs.declared.part_name.PartName.TheVariants as names
 use Rattle.ca_model.specs.machine.Parts.{By, Enough, Needs, ShowsHeld, also, event_needs, next_part, part, present_needs, turn_needs, where_some}
 use Rattle.ca_model.specs.machine.Turns.{reaches_peer}
 use Rattle.ca_model.specs.machine.World.{World, Mailbox_of, Queue_of}
-use Rattle.ca_taking.proofs.NextLemmas.{also_none, holds_mailbox, holds_queue}
-use Rattle.ca_places.specs.Turns.{event_of, lot_at}
-use Rattle.ca_places.specs.declared.turn.Turn.{Turn}
-use Rattle.ca_places.specs.declared.turn.Turn.TheVariants as turns
+use Rattle.ca_verbs_taking.proofs.NextLemmas.{also_none, holds_mailbox, holds_queue}
+use Rattle.ca_model_places.specs.Turns.{event_of, lot_at}
+use Rattle.ca_model_places.specs.declared.turn.Turn.{Turn}
+use Rattle.ca_model_places.specs.declared.turn.Turn.TheVariants as turns
 use Rattle.std.specs.Option.{option_map}
 
 -- a queue pair or a mailbox that is not held is vacant in what is held

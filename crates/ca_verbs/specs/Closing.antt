@@ -2,10 +2,10 @@
 use Rattle.std.specs.Prelude.{◌≡◌, ◌≤◌, ℕ, suc, List, [], ◌∷◌, length, map, take, Option, Some, slice_get, Ok}
 use Rattle.ca_base.specs.Configuration.{configuration_in, part_count}
 use Rattle.ca_base.specs.declared.settings.Settings.{Settings}
-use Rattle.ca_fabric_machine.specs.After.{IsUp}
-use Rattle.ca_fabric_machine.specs.Meanings.{StandsFor}
-use Rattle.ca_fabric_machine.specs.Values.{PartValue}
-use Rattle.ca_fabric_machine.specs.declared.asked.Told.{Told}
+use Rattle.ca_verbs_machine.specs.After.{IsUp}
+use Rattle.ca_verbs_machine.specs.Meanings.{StandsFor}
+use Rattle.ca_verbs_machine.specs.Values.{PartValue}
+use Rattle.ca_verbs_machine.specs.declared.asked.Told.{Told}
 use Rattle.ca_isolation.specs.Alone.{Isolated}
 use Rattle.ca_keys.specs.Memory.{zeros}
 use Rattle.ca_model.specs.Carried.{Carried}
@@ -20,7 +20,7 @@ use Rattle.ca_model.specs.declared.entry.Entry.{Entry}
 use Rattle.ca_model.specs.machine.Run.{run}
 use Rattle.ca_parts.specs.Hands.{AllStand}
 use Rattle.ca_parts.specs.Lists.{Has}
-use Rattle.ca_taking.specs.Holding.{Known}
+use Rattle.ca_verbs_taking.specs.Holding.{Known}
 use Rattle.ca_verbs.specs.Kept.{Kept, kept_of}
 use Rattle.ca_law_once.specs.Written.{Written, WrittenOnce}
 

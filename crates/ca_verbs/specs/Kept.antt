@@ -5,7 +5,7 @@ use Rattle.std.specs.List.{AllByRecursion}
 use Rattle.std.specs.Coded.{le_prop}
 use Rattle.ca_base.specs.Configuration.{Adapter, Configuration}
 use Rattle.ca_base.specs.declared.limits.TheConstants.{MAX_BUFFER_BYTES}
-use Rattle.ca_fabric_machine.specs.declared.asked.Told.{Told}
+use Rattle.ca_verbs_machine.specs.declared.asked.Told.{Told}
 use Rattle.ca_model.specs.declared.entry.Entry.{Entry}
 use Rattle.ca_model.specs.declared.event.Event.{Event}
 use Rattle.ca_model.specs.declared.mark.Mark.{Mark}

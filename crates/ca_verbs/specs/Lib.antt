@@ -5,4 +5,4 @@ pub mod Starting
 pub mod Closing
 pub mod Closed
 -- The libraries below, handed on to those above.
-pub use Rattle.ca_taking.specs as ca_taking
+pub use Rattle.ca_verbs_taking.specs as ca_verbs_taking

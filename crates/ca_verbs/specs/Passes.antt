@@ -3,16 +3,16 @@ use Rattle.std.specs.Prelude.{◌≡◌, ◌≤◌, ◌+◌, List, Option, Some,
 use Rattle.std.specs.Option.{option_and_then}
 use Rattle.std.specs.Vec.{vec_capacity}
 use Rattle.ca_base.specs.declared.settings.Settings.{Settings}
-use Rattle.ca_fabric_machine.specs.declared.asked.Asked.{Asked}
-use Rattle.ca_held.specs.HeldView.{room_for}
+use Rattle.ca_verbs_machine.specs.declared.asked.Asked.{Asked}
+use Rattle.ca_adapter_parts.specs.HeldView.{room_for}
 use Rattle.ca_model.specs.declared.entry.Entry.{Entry}
 use Rattle.ca_model.specs.declared.event.Event.{Event}
 use Rattle.ca_model.specs.declared.mark.Mark.{Mark}
 use Rattle.ca_model.specs.declared.part_name.PartName.{PartName}
 use Rattle.ca_parts.specs.Rows.{IsPassOf, settings_of, view_of}
-use Rattle.ca_taking.specs.Holding.{Known}
-use Rattle.ca_taking.specs.Taking.{SameRecord}
-use Rattle.ca_taking.specs.declared.taking.TheConstants.{MAX_ASKED_PARTS}
+use Rattle.ca_verbs_taking.specs.Holding.{Known}
+use Rattle.ca_verbs_taking.specs.Taking.{SameRecord}
+use Rattle.ca_verbs_taking.specs.declared.taking.TheConstants.{MAX_ASKED_PARTS}
 use Rattle.ca_verbs.specs.Tried.{IsMade, WasNotMade, told_of}
 use Rattle.ca_verbs.specs.declared.fabric.Fabric.{Fabric}
 use Rattle.ca_verbs.specs.declared.pass.Pass.{Pass}

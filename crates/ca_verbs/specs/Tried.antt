@@ -6,12 +6,12 @@ use Rattle.ca_base.specs.declared.step.Reason.{Reason}
 use Rattle.ca_base.specs.declared.step.Reason.TheVariants as reasons
 use Rattle.ca_base.specs.declared.step.StepError.{StepError}
 use Rattle.ca_base.specs.declared.step.StepError.TheVariants as steps
-use Rattle.ca_fabric_machine.specs.After.{IsUp, world_after}
-use Rattle.ca_fabric_machine.specs.Asks.{event_asked}
-use Rattle.ca_fabric_machine.specs.Meanings.{CanFollow, StandsFor}
-use Rattle.ca_fabric_machine.specs.Values.{PartValue}
-use Rattle.ca_fabric_machine.specs.declared.asked.Asked.{Asked}
-use Rattle.ca_fabric_machine.specs.declared.asked.Told.{Told}
+use Rattle.ca_verbs_machine.specs.After.{IsUp, world_after}
+use Rattle.ca_verbs_machine.specs.Asks.{event_asked}
+use Rattle.ca_verbs_machine.specs.Meanings.{CanFollow, StandsFor}
+use Rattle.ca_verbs_machine.specs.Values.{PartValue}
+use Rattle.ca_verbs_machine.specs.declared.asked.Asked.{Asked}
+use Rattle.ca_verbs_machine.specs.declared.asked.Told.{Told}
 use Rattle.ca_model.specs.declared.event.Event.{Event}
 use Rattle.ca_model.specs.declared.mark.Mark.{Mark}
 use Rattle.ca_model.specs.machine.Plan.{NotReady}
@@ -19,10 +19,10 @@ use Rattle.ca_model.specs.machine.Step.{step}
 use Rattle.ca_model.specs.machine.World.{World}
 use Rattle.ca_parts.specs.Hands.{AllStand}
 use Rattle.ca_parts.specs.Lists.{EachFollows, Has}
-use Rattle.ca_taking.specs.Holding.{Known}
-use Rattle.ca_taking.specs.Taking.{HasLooked, WasBusy, WasFull}
-use Rattle.ca_taking.specs.declared.take_error.TakeError.{TakeError}
-use Rattle.ca_taking.specs.declared.take_error.TakeError.TheVariants as takes
+use Rattle.ca_verbs_taking.specs.Holding.{Known}
+use Rattle.ca_verbs_taking.specs.Taking.{HasLooked, WasBusy, WasFull}
+use Rattle.ca_verbs_taking.specs.declared.take_error.TakeError.{TakeError}
+use Rattle.ca_verbs_taking.specs.declared.take_error.TakeError.TheVariants as takes
 use Rattle.ca_verbs.specs.declared.try_error.TryError.{TryError}
 use Rattle.ca_verbs.specs.declared.try_error.TryError.TheVariants as errors
 

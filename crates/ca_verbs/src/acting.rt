@@ -1,23 +1,23 @@
 ghost use Rattle.std.specs.Prelude.{◌≡◌, ◌≤◌, [], IfErr, IfOk, OnErr, length, vec_capacity};
 ghost use Rattle.ca_base.specs.Configuration.{configuration_in};
-ghost use Rattle.ca_held.specs.HeldView.{holding};
+ghost use Rattle.ca_adapter_parts.specs.HeldView.{holding};
 ghost use Rattle.ca_model.specs.machine.Sound.{AreLimited, CanBeMade};
 ghost use Rattle.ca_parts.specs.Rows.{IsPassOf, settings_of, view_of};
-ghost use Rattle.ca_taking.specs.Hands.{IsEmpty};
-ghost use Rattle.ca_taking.specs.Asking.{asked_of};
-ghost use Rattle.ca_taking.specs.Holding.{IsHolding, Known};
-ghost use Rattle.ca_taking.specs.Taking.{SameRecord, TookAll};
+ghost use Rattle.ca_verbs_taking.specs.Hands.{IsEmpty};
+ghost use Rattle.ca_verbs_taking.specs.Asking.{asked_of};
+ghost use Rattle.ca_verbs_taking.specs.Holding.{IsHolding, Known};
+ghost use Rattle.ca_verbs_taking.specs.Taking.{SameRecord, TookAll};
 ghost use Rattle.ca_verbs.specs.Tried.{IsEventOf, IsMade, WasNotMade, refusal_of, told_of};
 
 use crate::marking::mark;
 use crate::try_error::TryError;
+use ca_adapter_parts::Held;
 use ca_base::StepError;
-use ca_fabric_machine::SharedPart;
-use ca_held::Held;
 use ca_model::{Event, Marks, PartName};
 use ca_parts::{PartPass, Parts};
-use ca_taking::ca_adapter::act;
-use ca_taking::{Ask, InHand, give_all, put_back, unpack};
+use ca_verbs_machine::SharedPart;
+use ca_verbs_taking::ca_adapter::act;
+use ca_verbs_taking::{Ask, InHand, give_all, put_back, unpack};
 use std::alloc::Global;
 
 /// An event that was made: its stamp and its marks.

@@ -9,8 +9,8 @@ use crate::fabric::Fabric;
 use crate::pass::Pass;
 use crate::placing::{all_fit, collect, place_all, places};
 use ca_base::limits::MAX_PASSES;
-use ca_fabric_machine::SharedPart;
 use ca_model::Entry;
+use ca_verbs_machine::SharedPart;
 
 /// The most entries of a history.
 const MAX_ENTRIES: usize = 4_294_967_294;

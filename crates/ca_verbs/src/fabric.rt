@@ -4,8 +4,8 @@ ghost use Rattle.ca_model.specs.machine.Sound.{AreLimited};
 ghost use Rattle.ca_parts.specs.Rows.{part_count, settings_of};
 ghost use Rattle.ca_verbs.specs.Kept.{limited_prop};
 
-use ca_fabric_machine::SharedPart;
 use ca_parts::Parts;
+use ca_verbs_machine::SharedPart;
 use std::alloc::Global;
 
 /// Adapters that threads share by `&`. Each caller has a pass.

@@ -1,16 +1,16 @@
 ghost use Rattle.std.specs.Prelude.{◌≡◌, ℕ, List};
-ghost use Rattle.ca_fabric_machine.specs.declared.asked.Told as told;
+ghost use Rattle.ca_verbs_machine.specs.declared.asked.Told as told;
 ghost use Rattle.ca_parts.specs.Calls.{MayStamp, Sees};
 ghost use Rattle.ca_parts.specs.Rows.{IsPassOf, settings_of, view_of};
 ghost use Rattle.ca_parts.specs.Views.{with_entry};
-ghost use Rattle.ca_taking.specs.Asking.{asked_of};
-ghost use Rattle.ca_taking.specs.Holding.{hand_of};
+ghost use Rattle.ca_verbs_taking.specs.Asking.{asked_of};
+ghost use Rattle.ca_verbs_taking.specs.Holding.{hand_of};
 ghost use Rattle.ca_verbs.specs.Tried.{told_of};
 
-use ca_fabric_machine::Told;
 use ca_model::{Event, Marks};
 use ca_parts::{Machine, PartPass, Parts};
-use ca_taking::{Ask, InHand};
+use ca_verbs_machine::Told;
+use ca_verbs_taking::{Ask, InHand};
 
 /// Stamps the entry that is the `ghost` of this call, after which the parts in hand stand for the values that are part of it.
 /// It stands over every machine with such entries: what a call knows only by its `ghost` cannot be told of parts that have

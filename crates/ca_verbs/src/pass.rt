@@ -1,14 +1,14 @@
 ghost use Rattle.std.specs.Prelude.{◌≡◌, ◌<◌, ℕ, [], Some, length};
-ghost use Rattle.ca_held.specs.HeldView.{holding};
+ghost use Rattle.ca_adapter_parts.specs.HeldView.{holding};
 ghost use Rattle.ca_parts.specs.Rows.{view_of};
-ghost use Rattle.ca_taking.specs.Hands.{IsEmpty};
+ghost use Rattle.ca_verbs_taking.specs.Hands.{IsEmpty};
 ghost use Rattle.ca_verbs.specs.Kept.{kept_of, told_by};
 
-use ca_fabric_machine::SharedPart;
-use ca_held::Held;
+use ca_adapter_parts::Held;
 use ca_model::{Entry, PartName};
 use ca_parts::PartPass;
-use ca_taking::InHand;
+use ca_verbs_machine::SharedPart;
+use ca_verbs_taking::InHand;
 
 /// A caller's token. It keeps the entries of the calls that were made with it, and room for what is in hand during a call.
 ///

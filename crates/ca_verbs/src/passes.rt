@@ -1,12 +1,12 @@
 ghost use Rattle.std.specs.Prelude.{◌≡◌, ◌↔◌, ◌<◌, IfOk, IsErr, None, OnErr, option_copied};
 ghost use Rattle.ca_parts.specs.Views.{lower_half, upper_half, with_look};
 ghost use Rattle.ca_verbs.specs.Passes.{IsOf, known_of, latest_of, settings_in};
-ghost use Rattle.ca_fabric_machine.specs.Meanings.{CanFollow, StandsFor, next_of};
+ghost use Rattle.ca_verbs_machine.specs.Meanings.{CanFollow, StandsFor, next_of};
 ghost use Rattle.ca_parts.specs.Calls.{Sees};
 
 use crate::fabric::Fabric;
 use crate::pass::Pass;
-use ca_held::Held;
+use ca_adapter_parts::Held;
 use ca_model::Entry;
 use ca_parts::Spent;
 

@@ -7,7 +7,7 @@ ghost use Rattle.ca_verbs.specs.Closing.{IsFilled, stamps_of};
 
 use ca_base::Memory;
 use ca_model::Entry;
-use ca_taking::ca_adapter::lists_fit;
+use ca_verbs_taking::ca_adapter::lists_fit;
 use std::alloc::Global;
 
 /// So many places, all empty, and room for as many entries.

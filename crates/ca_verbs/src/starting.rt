@@ -1,7 +1,7 @@
 ghost use Rattle.std.specs.Prelude.{◌≡◌, ◌<◌, IfErr, IfOk, Err, None, map};
 ghost use Rattle.ca_base.specs.Configuration.{configuration_in, configuration_of, part_count as count_of};
 ghost use Rattle.ca_base.specs.declared.limits.TheConstants.{MAX_PARTS};
-ghost use Rattle.ca_fabric_machine.specs.Values.{value_of};
+ghost use Rattle.ca_verbs_machine.specs.Values.{value_of};
 ghost use Rattle.ca_parts.specs.Views.{first_view};
 ghost use Rattle.ca_verbs.specs.Passes.{IsOf, known_of, latest_of, settings_in};
 ghost use Rattle.ca_verbs.specs.Starting.{IsCause, IsWithin};
@@ -11,13 +11,13 @@ use crate::fabric::Fabric;
 use crate::limits::is_within;
 use crate::pass::Pass;
 use crate::start_error::StartError;
+use ca_adapter_opening::{parts, zero_contents};
+use ca_adapter_parts::{Held, Part};
 use ca_base::limits::MAX_PARTS;
 use ca_base::{Config, Memory, Settings, part_count};
-use ca_fabric_machine::SharedPart;
-use ca_held::{Held, Part};
 use ca_model::Opening;
-use ca_opening::{parts, zero_contents};
 use ca_parts::Parts;
+use ca_verbs_machine::SharedPart;
 use std::alloc::Global;
 
 impl Fabric {

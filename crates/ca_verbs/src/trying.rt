@@ -1,29 +1,29 @@
 ghost use Rattle.std.specs.Prelude.{◌≡◌, ◌≤◌, ℕ, List, [], IfErr, IfOk, OnErr, vec_capacity};
 ghost use Rattle.ca_base.specs.Configuration.{configuration_in, part_count as count_of};
-ghost use Rattle.ca_fabric_machine.specs.Values.{PartValue};
-ghost use Rattle.ca_fabric_machine.specs.declared.asked.Asked.TheVariants as asks;
-ghost use Rattle.ca_held.specs.HeldView.{holding, room_for};
+ghost use Rattle.ca_verbs_machine.specs.Values.{PartValue};
+ghost use Rattle.ca_verbs_machine.specs.declared.asked.Asked.TheVariants as asks;
+ghost use Rattle.ca_adapter_parts.specs.HeldView.{holding, room_for};
 ghost use Rattle.ca_model.specs.declared.part_name.PartName.{PartName};
 ghost use Rattle.ca_model.specs.machine.Sound.{AreLimited};
 ghost use Rattle.ca_parts.specs.Rows.{IsPassOf, part_count, settings_of, view_of};
-ghost use Rattle.ca_taking.specs.Hands.{IsEmpty};
-ghost use Rattle.ca_taking.specs.Asking.{asked_of};
-ghost use Rattle.ca_taking.specs.Taking.{SameRecord};
-ghost use Rattle.ca_taking.specs.declared.taking.TheConstants.{MAX_ASKED_PARTS};
+ghost use Rattle.ca_verbs_taking.specs.Hands.{IsEmpty};
+ghost use Rattle.ca_verbs_taking.specs.Asking.{asked_of};
+ghost use Rattle.ca_verbs_taking.specs.Taking.{SameRecord};
+ghost use Rattle.ca_verbs_taking.specs.declared.taking.TheConstants.{MAX_ASKED_PARTS};
 ghost use Rattle.ca_verbs.specs.Tried.{IsEventOf, IsMade, WasNotMade, error_of, told_of};
 
 use crate::acting::{Made, act_in_hand};
 use crate::try_error::TryError;
 use crate::turning::event_of;
+use ca_adapter_parts::Held;
 use ca_base::Reason;
-use ca_fabric_machine::SharedPart;
-use ca_held::Held;
 use ca_mailbox::Weather;
 use ca_model::{Event, PartName};
+use ca_model_places::Turn;
 use ca_parts::{PartPass, Parts};
-use ca_places::Turn;
-use ca_taking::ca_adapter::lists_fit;
-use ca_taking::{Ask, InHand, TakeError, put_back, take_all};
+use ca_verbs_machine::SharedPart;
+use ca_verbs_taking::ca_adapter::lists_fit;
+use ca_verbs_taking::{Ask, InHand, TakeError, put_back, take_all};
 use std::alloc::Global;
 
 /// Takes the parts of what is asked, reads the clock, acts, stamps, and gives the parts back.

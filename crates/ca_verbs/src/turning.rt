@@ -2,15 +2,15 @@ ghost use Rattle.std.specs.Prelude.{◌≡◌};
 ghost use Rattle.std.specs.Option.{option_copied};
 ghost use Rattle.ca_base.specs.objects.Mailbox.{due};
 ghost use Rattle.ca_base.specs.objects.QueuePair.{Present};
-ghost use Rattle.ca_held.specs.HeldView.{holding};
-ghost use Rattle.ca_taking.specs.Hands.{IsMailboxIn, IsQueueIn};
-ghost use Rattle.ca_places.specs.Turns as turns;
+ghost use Rattle.ca_adapter_parts.specs.HeldView.{holding};
+ghost use Rattle.ca_verbs_taking.specs.Hands.{IsMailboxIn, IsQueueIn};
+ghost use Rattle.ca_model_places.specs.Turns as turns;
 
+use ca_adapter_parts::{Held, QueueSlot};
 use ca_base::{Lot, QueueId};
-use ca_held::{Held, QueueSlot};
 use ca_mailbox::{Mailbox, Weather};
 use ca_model::{Event, PartName};
-use ca_places::Turn;
+use ca_model_places::Turn;
 use ca_qpstate::QueuePart;
 
 /// The event that a turn is by what is held, under a weather; none where nothing is due.

@@ -1,8 +1,8 @@
 ghost use Rattle.std.specs.Prelude.{◌≡◌, [], IfErr, IfOk, OnErr, OnOk};
-ghost use Rattle.ca_fabric_machine.specs.declared.asked.Asked.TheVariants as asks;
+ghost use Rattle.ca_verbs_machine.specs.declared.asked.Asked.TheVariants as asks;
 ghost use Rattle.ca_model.specs.declared.event.Event as model;
 ghost use Rattle.ca_model.specs.declared.event.Event.TheVariants as events;
-ghost use Rattle.ca_taking.specs.Taking.{SameRecord};
+ghost use Rattle.ca_verbs_taking.specs.Taking.{SameRecord};
 ghost use Rattle.ca_verbs.specs.Passes.{HasRoom, IsOf, IsReceipt, known_of, latest_of, settings_in};
 ghost use Rattle.ca_verbs.specs.Tried.{WasNotMade};
 
@@ -13,8 +13,8 @@ use crate::trying::{try_event, try_turn_event};
 use ca_base::Memory;
 use ca_mailbox::Weather;
 use ca_model::{Entry, Event, Verb};
-use ca_places::Turn;
-use ca_taking::{Ask, MAX_ASKED_PARTS};
+use ca_model_places::Turn;
+use ca_verbs_taking::{Ask, MAX_ASKED_PARTS};
 
 impl Pass {
     /// Makes room for a call.

@@ -1,5 +1,5 @@
 ghost use Rattle.std.specs.Prelude.{IfErr, IfOk};
-ghost use Rattle.ca_fabric_machine.specs.declared.asked.Asked.TheVariants as asks;
+ghost use Rattle.ca_verbs_machine.specs.declared.asked.Asked.TheVariants as asks;
 ghost use Rattle.ca_model.specs.declared.event.Event as model;
 ghost use Rattle.ca_model.specs.declared.event.Event.TheVariants as events;
 ghost use Rattle.ca_verbs.specs.Passes.{IsOf, WasMade, WasRefused, settings_in};
@@ -9,7 +9,7 @@ use crate::pass::{Pass, Receipt};
 use crate::try_error::TryError;
 use ca_mailbox::Weather;
 use ca_model::Verb;
-use ca_places::Turn;
+use ca_model_places::Turn;
 use std::sync::Wait;
 
 impl Fabric {

@@ -3,7 +3,7 @@ mod offers;
 use arrayvec::ArrayVec;
 use ca_base::{AdapterConfig, Config, QueueId};
 use ca_engine::{Engine, Offer, Outcome};
-use ca_places::Turn;
+use ca_model_places::Turn;
 use std::process::Abort;
 
 const FIRST: QueueId = QueueId {

@@ -1,7 +1,7 @@
 ghost use Rattle.std.specs.Prelude.{◌≡◌, ◌≤◌, ℕ, reverse, true};
-ghost use Rattle.ca_order.specs.OfScript.{HasEnded};
-ghost use Rattle.ca_order.specs.Order.{HasNoMoreLines, Stage, at_round, ending, ending_from, order};
-ghost use Rattle.ca_order.specs.ca_script.Script.{ScriptValue};
+ghost use Rattle.ca_script_order.specs.OfScript.{HasEnded};
+ghost use Rattle.ca_script_order.specs.Order.{HasNoMoreLines, Stage, at_round, ending, ending_from, order};
+ghost use Rattle.ca_script_order.specs.ca_script.Script.{ScriptValue};
 ghost use Rattle.ca_engine.specs.Loop.{has_ended, most_offers, opening_work, work_after_all, work_from};
 
 /// The loop ends, after no more offers than are in a round and a timer pass for each round that there can be. A round

@@ -14,7 +14,7 @@ ghost use Rattle.ca_model.specs.machine.Run.{Follows};
 ghost use Rattle.ca_model.specs.machine.Sound.{AreLimited, CanBeMade, IsSoundWorld};
 ghost use Rattle.ca_model.specs.machine.Step.{step};
 ghost use Rattle.ca_model.specs.machine.World.{opening_world, World};
-ghost use Rattle.ca_law_calm.specs.RowMail.{AreWholeDrops};
+ghost use Rattle.ca_law_lossless.specs.RowMail.{AreWholeDrops};
 
 /// Before the first event no envelope is under way, and no requester waits.
 pub fn opening_mail_is_calm()

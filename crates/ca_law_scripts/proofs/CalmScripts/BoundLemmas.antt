@@ -13,10 +13,10 @@ use Rattle.ca_model.specs.Past.{after_entries, opening_past}
 use Rattle.ca_model.specs.machine.Run.{Follows}
 use Rattle.ca_model.specs.machine.Sound.{AreLimited}
 use Rattle.ca_law_bounds.proofs.of_ca_law_once.Once.RunLemmas.{walk-along}
-use Rattle.ca_order.proofs.FollowLemmas.{order-follows}
-use Rattle.ca_order.proofs.ScriptLemmas.{order-told}
-use Rattle.ca_order.specs.OfScript.{BudgetSpent, Fine, LeadsTo, Stalled, Status, lines_at, opening_reach, stalled_at, stalled_from, status_of}
-use Rattle.ca_order.specs.Order.{Stage, ending, order}
+use Rattle.ca_script_order.proofs.FollowLemmas.{order-follows}
+use Rattle.ca_script_order.proofs.ScriptLemmas.{order-told}
+use Rattle.ca_script_order.specs.OfScript.{BudgetSpent, Fine, LeadsTo, Stalled, Status, lines_at, opening_reach, stalled_at, stalled_from, status_of}
+use Rattle.ca_script_order.specs.Order.{Stage, ending, order}
 use Rattle.ca_law_scripts.specs.Rest.{AreCallable}
 use Rattle.ca_script.specs.Script.{ScriptValue}
 use Rattle.ca_script_lines.specs.declared.Line.{Line}

@@ -9,8 +9,8 @@ use Rattle.ca_model.specs.declared.event.Event.{Event}
 use Rattle.ca_model.specs.declared.event.Event.TheVariants as events
 use Rattle.ca_model.specs.declared.verb.Verb.{Verb}
 use Rattle.ca_model.specs.machine.Sound.{CanBeMade, HasFewPieces}
-use Rattle.ca_order.specs.OfScript.{calls_by, verbs_in as verbs_of}
-use Rattle.ca_order.specs.Order.{lines_of}
+use Rattle.ca_script_order.specs.OfScript.{calls_by, verbs_in as verbs_of}
+use Rattle.ca_script_order.specs.Order.{lines_of}
 use Rattle.ca_law_scripts.specs.Rest.{AreCallable, IsCallable}
 use Rattle.ca_script_lines.specs.declared.Line.{Line}
 use Rattle.ca_script_lines.specs.declared.what.What.{What}

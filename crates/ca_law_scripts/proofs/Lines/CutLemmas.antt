@@ -16,15 +16,15 @@ use Rattle.ca_keys.specs.declared.names.Slot.{Slot}
 use Rattle.ca_keys.specs.Spelling.{address_text, rights_text}
 use Rattle.ca_model.specs.declared.verb.Verb.{Verb}
 use Rattle.ca_model.specs.declared.verb.Verb.TheVariants as verbs
-use Rattle.ca_trace_words.specs.Verbs.{change_words, operation_words, poll_words, verb_words, call_words, call}
-use Rattle.ca_trace_words.specs.Words.{Field, Fixed, Number, Lettered, Perhaps, InAdapter, OfDomain, OfSlot, OfQueue, OfKey, Address, Hex, OfRights, OfFlags, OfPieces, OfPages, word, words, joined, led, flags_text, hexadecimal}
-use Rattle.ca_reading_words.proofs.NameLemmas.{field_plain}
-use Rattle.ca_reading_words.specs.Fits.{Fits, AllFit}
-use Rattle.ca_reading_words.specs.Words.{pieces}
-use Rattle.ca_reading_words.proofs.NumberLemmas.{decimal_digits}
-use Rattle.ca_reading_words.proofs.PieceLemmas.{all_lack, pieces_joined, plain_lacks}
-use Rattle.ca_reading_words.proofs.WordLemmas.{most_small}
-use Rattle.ca_script_words.specs.Words.{is_word, words_of}
+use Rattle.ca_trace_print.specs.Verbs.{change_words, operation_words, poll_words, verb_words, call_words, call}
+use Rattle.ca_trace_print.specs.Words.{Field, Fixed, Number, Lettered, Perhaps, InAdapter, OfDomain, OfSlot, OfQueue, OfKey, Address, Hex, OfRights, OfFlags, OfPieces, OfPages, word, words, joined, led, flags_text, hexadecimal}
+use Rattle.ca_trace_lex.proofs.NameLemmas.{field_plain}
+use Rattle.ca_trace_lex.specs.Fits.{Fits, AllFit}
+use Rattle.ca_trace_lex.specs.Words.{pieces}
+use Rattle.ca_trace_lex.proofs.NumberLemmas.{decimal_digits}
+use Rattle.ca_trace_lex.proofs.PieceLemmas.{all_lack, pieces_joined, plain_lacks}
+use Rattle.ca_trace_lex.proofs.WordLemmas.{most_small}
+use Rattle.ca_script_lex.specs.Words.{is_word, words_of}
 use Rattle.ca_law_scripts.specs.Agreement.{LinesAgree}
 use Rattle.ca_law_scripts.proofs.Lines.WordLemmas.{decimal_consumer, decimal_limited}
 use Rattle.ca_law_scripts.proofs.Lines.VerbLemmas.{verb_said}

@@ -7,11 +7,11 @@ use Rattle.ca_base.specs.declared.request.SendOp.{SendOp}
 use Rattle.ca_base.specs.declared.request.SendOp.TheVariants as ops
 use Rattle.ca_keys.specs.declared.names.Slot.{Slot}
 use Rattle.ca_model.specs.declared.verb.Verb.TheVariants as verbs
-use Rattle.ca_trace_words.specs.Verbs.{change_words, operation_words, poll_words}
-use Rattle.ca_trace_words.specs.Words.{words}
-use Rattle.ca_reading_words.specs.Fits.{AllFit}
+use Rattle.ca_trace_print.specs.Verbs.{change_words, operation_words, poll_words}
+use Rattle.ca_trace_print.specs.Words.{words}
+use Rattle.ca_trace_lex.specs.Fits.{AllFit}
 use Rattle.ca_script_lines.specs.Grammar.{consumer_lines, object_lines, change_lines, work_lines, operations, local_operations, pd_row, unpd_row, reg_row, mr_row, dereg_row, mw_row, unmw_row, cq_row, uncq_row, srq_row, unsrq_row, qp_row, unqp_row, query_row, init_row, sqd_row, resume_row, error_row, reset_row, rtr_row, rts_row, post_row, recv_row, srecv_row, poll_row, wait_row, store_row, load_row, inject_row, send_row, send_imm_row, send_inv_row, write_row, write_imm_row, read_row, cmp_swap_row, fetch_add_row, bind1_row, bind2_row, fast_reg_row, local_inv_row}
-use Rattle.ca_script_words.specs.Words.{number}
+use Rattle.ca_script_lex.specs.Words.{number}
 use Rattle.ca_script_lines.specs.Rows.{read_table}
 use Rattle.ca_script_lines.specs.declared.what.What.TheVariants as whats
 use Rattle.ca_law_scripts.specs.Agreement.{VerbsAgree, names_pages}

@@ -20,16 +20,16 @@ use Rattle.ca_base.specs.declared.request.Piece.{Piece}
 use Rattle.ca_keys.specs.declared.rights.Rights.{Rights}
 use Rattle.ca_keys.specs.Spelling.{dash, perhaps, domain_text, slot_text, queue_text, key_text, address_text, rights_text}
 use Rattle.ca_base.specs.Spelling.{piece_text}
-use Rattle.ca_trace_words.specs.Words.{led, commas, flags_text}
-use Rattle.ca_trace_words.specs.Words as trace
-use Rattle.ca_reading_words.specs.Fits.{DomainFits, SlotFits, QueueFits, KeyFits, PieceFits}
-use Rattle.ca_reading_words.specs.Words.{pieces, key_in}
-use Rattle.ca_reading_words.proofs.NumberLemmas.{decimal_digits, number_lacks, number_is_some}
-use Rattle.ca_reading_words.proofs.PieceLemmas.{lacks, all_lack, one_piece, first_piece, pieces_joined, lacks_append, digits_lack}
-use Rattle.ca_reading_words.proofs.WordLemmas.{key_again, piece_listed}
-use Rattle.ca_script_words.specs.Reading.{each}
-use Rattle.ca_script_words.specs.Words.{is_word, is_hexadecimal, is_number, value_of, limited, number, optional, are_numbers, in_adapter, domain, queue, slot, flags, rights, hexadecimal, is_piece, piece, piece_list, page_list, is_consumer, are_digits}
-use Rattle.ca_script_words.proofs.NumberLemmas.{value_in_is}
+use Rattle.ca_trace_print.specs.Words.{led, commas, flags_text}
+use Rattle.ca_trace_print.specs.Words as trace
+use Rattle.ca_trace_lex.specs.Fits.{DomainFits, SlotFits, QueueFits, KeyFits, PieceFits}
+use Rattle.ca_trace_lex.specs.Words.{pieces, key_in}
+use Rattle.ca_trace_lex.proofs.NumberLemmas.{decimal_digits, number_lacks, number_is_some}
+use Rattle.ca_trace_lex.proofs.PieceLemmas.{lacks, all_lack, one_piece, first_piece, pieces_joined, lacks_append, digits_lack}
+use Rattle.ca_trace_lex.proofs.WordLemmas.{key_again, piece_listed}
+use Rattle.ca_script_lex.specs.Reading.{each}
+use Rattle.ca_script_lex.specs.Words.{is_word, is_hexadecimal, is_number, value_of, limited, number, optional, are_numbers, in_adapter, domain, queue, slot, flags, rights, hexadecimal, is_piece, piece, piece_list, page_list, is_consumer, are_digits}
+use Rattle.ca_script_lex.proofs.NumberLemmas.{value_in_is}
 
 -- ---- numbers
 

@@ -7,9 +7,9 @@ use Rattle.ca_model.specs.declared.event.Event.{Event}
 use Rattle.ca_model.specs.declared.event.Event.TheVariants as events
 use Rattle.ca_model.specs.declared.verb.Verb.{Verb}
 use Rattle.ca_model.specs.machine.Sound.{CanBeMade, HasFewPieces}
-use Rattle.ca_order.proofs.ScriptLemmas.{order-told}
-use Rattle.ca_order.specs.OfScript.{LeadsTo, calls_by, verbs_in}
-use Rattle.ca_order.specs.Order.{Stage, ending, lines_of, order}
+use Rattle.ca_script_order.proofs.ScriptLemmas.{order-told}
+use Rattle.ca_script_order.specs.OfScript.{LeadsTo, calls_by, verbs_in}
+use Rattle.ca_script_order.specs.Order.{Stage, ending, lines_of, order}
 use Rattle.ca_law_scripts.proofs.Rest.ScriptLemmas.{lines-callable}
 use Rattle.ca_law_scripts.specs.Rest.{AreCallable, IsCallable}
 use Rattle.ca_script.specs.Script.{ScriptValue}

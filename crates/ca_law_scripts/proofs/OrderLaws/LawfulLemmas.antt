@@ -11,10 +11,10 @@ use Rattle.ca_model.specs.Entries.{EntryValue}
 use Rattle.ca_model.specs.History.{IsHistory}
 use Rattle.ca_model.specs.machine.Run.{Follows}
 use Rattle.ca_law_once.proofs.Once.WholeLemmas.{whole-along as once-along}
-use Rattle.ca_order.proofs.FollowLemmas.{order-follows}
-use Rattle.ca_order.proofs.ScriptLemmas.{order-told}
-use Rattle.ca_order.specs.OfScript.{LeadsTo}
-use Rattle.ca_order.specs.Order.{Stage, ending, order}
+use Rattle.ca_script_order.proofs.FollowLemmas.{order-follows}
+use Rattle.ca_script_order.proofs.ScriptLemmas.{order-told}
+use Rattle.ca_script_order.specs.OfScript.{LeadsTo}
+use Rattle.ca_script_order.specs.Order.{Stage, ending, order}
 use Rattle.ca_law_scripts.proofs.OrderLaws.EventLemmas.{AreMade, script-made}
 use Rattle.ca_law_scripts.proofs.OrderLaws.StampLemmas.{order-stamped}
 use Rattle.ca_law_scripts.specs.Lawful.{IsLawfulHistory, IsLawfulOrder}

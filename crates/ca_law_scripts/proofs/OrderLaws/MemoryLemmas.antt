@@ -10,10 +10,10 @@ use Rattle.ca_model.specs.machine.Frame.{Afterwards}
 use Rattle.ca_model.specs.machine.Plan.{Did, NotReady, Outcome}
 use Rattle.ca_model.specs.machine.Step.{step}
 use Rattle.ca_model.specs.machine.World.{World}
-use Rattle.ca_order.proofs.FollowLemmas.{order-follows}
-use Rattle.ca_order.proofs.ScriptLemmas.{order-told}
-use Rattle.ca_order.specs.OfScript.{Reach, may_stand, opening_reach, reach_by, reach_from}
-use Rattle.ca_order.specs.Order.{ending, order}
+use Rattle.ca_script_order.proofs.FollowLemmas.{order-follows}
+use Rattle.ca_script_order.proofs.ScriptLemmas.{order-told}
+use Rattle.ca_script_order.specs.OfScript.{Reach, may_stand, opening_reach, reach_by, reach_from}
+use Rattle.ca_script_order.specs.Order.{ending, order}
 use Rattle.ca_law_scripts.proofs.OrderLaws.EventLemmas.{order-made}
 use Rattle.ca_law_scripts.specs.Limits.{KeepsToLimits}
 use Rattle.ca_script.specs.Script.{ScriptValue}

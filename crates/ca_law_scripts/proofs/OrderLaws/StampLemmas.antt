@@ -6,8 +6,8 @@ use Rattle.ca_model.specs.Entries.{EntryValue}
 use Rattle.ca_model.specs.declared.event.Event.{Event}
 use Rattle.ca_model.specs.machine.Plan.{Did, NotReady, Outcome}
 use Rattle.ca_model.specs.machine.Step.{step}
-use Rattle.ca_order.proofs.KeepLemmas.{IsKept, kept-rounds, kept-visit}
-use Rattle.ca_order.specs.Order.{Stage, after_event, after_outcome, most_rounds, opening_stage, order, with_lines_left}
+use Rattle.ca_script_order.proofs.KeepLemmas.{IsKept, kept-rounds, kept-visit}
+use Rattle.ca_script_order.specs.Order.{Stage, after_event, after_outcome, most_rounds, opening_stage, order, with_lines_left}
 use Rattle.ca_script.specs.Script.{ScriptValue}
 
 stamped-more : (n : ℕ) (es : List EntryValue) (e : EntryValue) → AreStamped n es → e.stamp ≡ n + length es → AreStamped n (es ++ e ∷ [])

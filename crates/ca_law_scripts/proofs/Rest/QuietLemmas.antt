@@ -17,14 +17,14 @@ use Rattle.ca_model.specs.declared.event.Event.TheVariants as events
 use Rattle.ca_model.specs.machine.Sound.{IsSoundWorld}
 use Rattle.ca_model.specs.machine.Step.{step}
 use Rattle.ca_model.specs.machine.World.{Queue_of, World}
-use Rattle.ca_order.specs.OfScript.{is_possible, is_quiet, may_fire, may_turn, may_work}
-use Rattle.ca_order.specs.Visits.{all_queues, numbers_below, queues_from, queues_of_adapter}
+use Rattle.ca_script_order.specs.OfScript.{is_possible, is_quiet, may_fire, may_turn, may_work}
+use Rattle.ca_script_order.specs.Visits.{all_queues, numbers_below, queues_from, queues_of_adapter}
 use Rattle.ca_law_scripts.proofs.Rest.RestLemmas.{IsStill, rests}
 use Rattle.ca_law_world.specs.Steady.{IsSteadyWorld}
 use Rattle.ca_law_scripts.specs.Rest.{AcceptsPeers, IsAtRest}
 use Rattle.ca_script.specs.Script.{ScriptValue}
-use Rattle.ca_places.specs.Turns.{hasten_at, lot_at}
-use Rattle.ca_places.specs.declared.turn.Turn.TheVariants as turns
+use Rattle.ca_model_places.specs.Turns.{hasten_at, lot_at}
+use Rattle.ca_model_places.specs.declared.turn.Turn.TheVariants as turns
 
 -- ---- a configured queue pair is among all
 

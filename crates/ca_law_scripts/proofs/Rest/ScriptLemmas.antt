@@ -24,11 +24,11 @@ use Rattle.ca_model.specs.machine.Plan.{Did, NotReady, Outcome}
 use Rattle.ca_model.specs.machine.Sound.{AreLimited, CanBeMade, IsSoundWorld}
 use Rattle.ca_model.specs.machine.Step.{step}
 use Rattle.ca_model.specs.machine.World.{World}
-use Rattle.ca_order.proofs.KeepLemmas.{kept-rounds}
-use Rattle.ca_order.proofs.StatusLemmas.{order-status}
-use Rattle.ca_order.specs.OfScript.{BudgetSpent, Fine, HasStatus, IsQuietEnd, Stalled, Status, status_of}
-use Rattle.ca_order.specs.Order.{Stage, after_event, after_line, after_outcome, after_visit, ending, lines_of, most_rounds, opening_stage, with_lines_left}
-use Rattle.ca_order.specs.Visits.{Consumer, Engine, Visit}
+use Rattle.ca_script_order.proofs.KeepLemmas.{kept-rounds}
+use Rattle.ca_script_order.proofs.StatusLemmas.{order-status}
+use Rattle.ca_script_order.specs.OfScript.{BudgetSpent, Fine, HasStatus, IsQuietEnd, Stalled, Status, status_of}
+use Rattle.ca_script_order.specs.Order.{Stage, after_event, after_line, after_outcome, after_visit, ending, lines_of, most_rounds, opening_stage, with_lines_left}
+use Rattle.ca_script_order.specs.Visits.{Consumer, Engine, Visit}
 use Rattle.ca_law_scripts.proofs.Rest.QuietLemmas.{quiet-rests}
 use Rattle.ca_law_scripts.proofs.Rest.TextLemmas.{text-callable, text-limited}
 use Rattle.ca_law_scripts.specs.Rest.{AcceptsPeers, AreCallable, IsAtRest, IsCallable, IsQuietStatus}
@@ -36,9 +36,9 @@ use Rattle.ca_script.specs.Script.{ScriptValue, script_of}
 use Rattle.ca_script_lines.specs.declared.Line.{Line}
 use Rattle.ca_script_lines.specs.declared.what.What.{What}
 use Rattle.ca_script_lines.specs.declared.what.What.TheVariants as whats
-use Rattle.ca_places.specs.Turns.{hasten_at, lot_at}
-use Rattle.ca_places.specs.declared.turn.Turn.{Turn}
-use Rattle.ca_places.specs.declared.turn.Turn.TheVariants as turns
+use Rattle.ca_model_places.specs.Turns.{hasten_at, lot_at}
+use Rattle.ca_model_places.specs.declared.turn.Turn.{Turn}
+use Rattle.ca_model_places.specs.declared.turn.Turn.TheVariants as turns
 
 -- a world that comes up: what laws say of it, and a past that agrees with it on paths
 record IsWorldUp (c : Configuration) (w : World) : Type 0 where

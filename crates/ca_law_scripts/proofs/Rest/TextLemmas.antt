@@ -10,7 +10,7 @@ use Rattle.ca_base.specs.declared.request.SendOp.{SendOp}
 use Rattle.ca_keys.specs.Spelling.{dash}
 use Rattle.ca_model.specs.Requests.{list_of}
 use Rattle.ca_model.specs.machine.Sound.{AreLimited, IsLimitedAdapter}
-use Rattle.ca_script_words.specs.ca_reading_words.Words.{pieces}
+use Rattle.ca_trace_lex.specs.Words.{pieces}
 use Rattle.ca_law_scripts.specs.Rest.{AreCallable, IsCallable}
 use Rattle.ca_script.specs.Script.{Draft, ScriptValue, after_line, after_lines, after_setup_line, after_words, finished, is_comment, is_text, refused_at, script_of, size_of, whole, with_line, within_limits}
 use Rattle.ca_script.specs.Setup.{Setup, adapters_row, after_setting, buffer_row, events_row, has_buffer_left, has_room_for, hasten_row, hold_row, is_late, is_setup_word, is_within_limits, lose_row, opening, plain_adapter, repeat_row, seed_row, setup_lines, slots_row, weather_lines, with_adapter, with_buffer, with_slots}
@@ -21,11 +21,11 @@ use Rattle.ca_script_lines.specs.Grammar.{consumer_lines, object_lines, change_l
 use Rattle.ca_script_lines.specs.Rows as rows
 use Rattle.ca_script_lines.specs.Rows.{Goes, Makes, Row, Takes, Words, read_named, read_table}
 use Rattle.ca_script_lines.specs.declared.what.Line.{Line}
-use Rattle.ca_script_words.specs.Kinds.{Hex, Kind, Number, OfBuffer, OfDomain, OfFlags, OfPages, OfPieces, OfQueue, OfRights, OfSlot, Optional, ValueOf, word_of}
-use Rattle.ca_script_words.specs.Reading.{◌>>=◌, each, field}
-use Rattle.ca_script_words.specs.Words.{is_consumer, is_number, is_piece, limited, number, piece, piece_list, value_of, words_of}
-use Rattle.ca_script_words.specs.declared.cause.ScriptCause.{ScriptCause}
-use Rattle.ca_script_words.specs.declared.cause.ScriptCause.TheVariants as causes
+use Rattle.ca_script_lex.specs.Kinds.{Hex, Kind, Number, OfBuffer, OfDomain, OfFlags, OfPages, OfPieces, OfQueue, OfRights, OfSlot, Optional, ValueOf, word_of}
+use Rattle.ca_script_lex.specs.Reading.{◌>>=◌, each, field}
+use Rattle.ca_script_lex.specs.Words.{is_consumer, is_number, is_piece, limited, number, piece, piece_list, value_of, words_of}
+use Rattle.ca_script_lex.specs.declared.cause.ScriptCause.{ScriptCause}
+use Rattle.ca_script_lex.specs.declared.cause.ScriptCause.TheVariants as causes
 
 -- ---- what a reader gives
 

@@ -4,12 +4,12 @@ use Rattle.std.proofs.lemmas.Bool.{cases_lt}
 use Rattle.std.proofs.lemmas.Bool.Decides.{nat_tests}
 use Rattle.std.specs.List.{onto_first}
 use Rattle.ca_base.specs.declared.limits.TheConstants.{MAX_SCRIPT_BYTES}
-use Rattle.ca_reading_words.specs.Words.{pieces}
+use Rattle.ca_trace_lex.specs.Words.{pieces}
 use Rattle.ca_law_scripts.proofs.Rest.TextLemmas.{Gives}
 use Rattle.ca_script.specs.Script.{Draft, ScriptValue, after_line, after_lines, finished, refused_at, script_of, size_of}
 use Rattle.ca_script.specs.Setup.{opening}
-use Rattle.ca_script_words.specs.declared.cause.ScriptCause.{ScriptCause}
-use Rattle.ca_script_words.specs.declared.cause.ScriptCause.TheVariants as causes
+use Rattle.ca_script_lex.specs.declared.cause.ScriptCause.{ScriptCause}
+use Rattle.ca_script_lex.specs.declared.cause.ScriptCause.TheVariants as causes
 
 -- ---- the lines of a text that goes on
 

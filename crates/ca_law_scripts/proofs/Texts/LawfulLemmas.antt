@@ -1,6 +1,6 @@
 -- The order of a script that a text means is lawful. For proofs only.
 use Rattle.std.proofs.Common.{◌≡◌, ℕ, List, Ok}
-use Rattle.ca_order.specs.Order.{order}
+use Rattle.ca_script_order.specs.Order.{order}
 use Rattle.ca_law_scripts.proofs.OrderLaws.LawfulLemmas.{order-lawful}
 use Rattle.ca_law_scripts.specs.Lawful.{IsLawfulOrder}
 use Rattle.ca_law_scripts.proofs.Rest.TextLemmas.{text-callable, text-limited}

@@ -12,8 +12,8 @@ use Rattle.ca_engine.specs.Loop.{most_offers}
 use Rattle.ca_keys.specs.Numbers.{queue_of}
 use Rattle.ca_keys.specs.declared.names.QueueId.{QueueId}
 use Rattle.ca_model.specs.machine.Sound.{AreLimited, IsLimitedAdapter}
-use Rattle.ca_order.specs.Order.{most_rounds}
-use Rattle.ca_order.specs.Visits.{all_queues, numbers_below, queues_from, queues_of_adapter}
+use Rattle.ca_script_order.specs.Order.{most_rounds}
+use Rattle.ca_script_order.specs.Visits.{all_queues, numbers_below, queues_from, queues_of_adapter}
 use Rattle.ca_law_scripts.proofs.Rest.TextLemmas.{text-limited}
 use Rattle.ca_script.specs.Script.{ScriptValue, script_of}
 use Rattle.ca_law_scripts.proofs.Texts.SizeLemmas.{IsSmallScript, text-small}

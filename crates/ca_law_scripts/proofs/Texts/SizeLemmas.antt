@@ -4,16 +4,16 @@ use Rattle.std.proofs.lemmas.Bool.Decides.{nat_tests}
 use Rattle.std.proofs.lemmas.List.Sums.{sum_by-cons}
 use Rattle.std.specs.List.{list_all}
 use Rattle.ca_base.specs.declared.limits.TheConstants.{MAX_CONSUMERS, MAX_SCRIPT_BYTES}
-use Rattle.ca_reading_words.specs.Words.{pieces}
+use Rattle.ca_trace_lex.specs.Words.{pieces}
 use Rattle.ca_law_scripts.proofs.Rest.TextLemmas.{Gives, gives-any, gives-if, gives-then}
 use Rattle.ca_script.specs.Script.{Draft, ScriptValue, after_line, after_lines, after_setup_line, after_words, finished, is_comment, is_text, refused_at, script_of, size_of, whole, with_line}
 use Rattle.ca_script.specs.Setup.{is_setup_word, opening}
 use Rattle.ca_script_lines.specs.Grammar.{consumer_lines}
 use Rattle.ca_script_lines.specs.Rows.{Words, read_table}
 use Rattle.ca_script_lines.specs.declared.what.Line.{Line}
-use Rattle.ca_script_words.specs.Words.{is_consumer, limited, value_of, words_of}
-use Rattle.ca_script_words.specs.declared.cause.ScriptCause.{ScriptCause}
-use Rattle.ca_script_words.specs.declared.cause.ScriptCause.TheVariants as causes
+use Rattle.ca_script_lex.specs.Words.{is_consumer, limited, value_of, words_of}
+use Rattle.ca_script_lex.specs.declared.cause.ScriptCause.{ScriptCause}
+use Rattle.ca_script_lex.specs.declared.cause.ScriptCause.TheVariants as causes
 
 -- how many lines consumers have
 abbrev pub line_count : List (List Line) → ℕ

@@ -6,8 +6,8 @@ ghost use Rattle.ca_model.specs.Entries.{EntryValue};
 ghost use Rattle.ca_model.specs.Past.{after_entries, opening_past};
 ghost use Rattle.ca_model.specs.machine.Run.{Follows};
 ghost use Rattle.ca_model.specs.machine.Sound.{AreLimited};
-ghost use Rattle.ca_order.specs.OfScript.{BudgetSpent, LeadsTo, status_of};
-ghost use Rattle.ca_order.specs.Order.{Stage, ending, order};
+ghost use Rattle.ca_script_order.specs.OfScript.{BudgetSpent, LeadsTo, status_of};
+ghost use Rattle.ca_script_order.specs.Order.{Stage, ending, order};
 ghost use Rattle.ca_law_scripts.specs.Rest.{AreCallable};
 ghost use Rattle.ca_script.specs.Script.{ScriptValue};
 

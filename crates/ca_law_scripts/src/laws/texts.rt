@@ -1,7 +1,7 @@
 ghost use Rattle.std.specs.Prelude.{◌≡◌, ◌++◌, ◌<◌, ◌≤◌, ◌^◌, ℕ, List, Ok, length};
 ghost use Rattle.ca_base.specs.declared.limits.TheConstants.{MAX_CONSUMERS, MAX_SCRIPT_BYTES};
 ghost use Rattle.ca_engine.specs.Loop.{most_offers};
-ghost use Rattle.ca_order.specs.Order.{order};
+ghost use Rattle.ca_script_order.specs.Order.{order};
 ghost use Rattle.ca_law_scripts.specs.Lawful.{IsLawfulOrder};
 ghost use Rattle.ca_script.specs.Script.{ScriptValue, script_of};
 

@@ -1,5 +1,5 @@
 use Rattle.std.proofs.Common.{◌∙◌, None, rules}
-use Rattle.ca_bed_requester.proofs.Kept.{at_hand}
+use Rattle.test_fixture_requester.proofs.Kept.{at_hand}
 use Rattle.bench_engines.proofs.answering.deliver.Goals as goal
 
 pub take-requires-clause-at_hand : goal.take-requires-clause-at_hand

@@ -1,6 +1,6 @@
 use Rattle.std.proofs.Common.{true}
-use Rattle.ca_bed_reach.specs.SmallReach.{sight_of}
-use Rattle.ca_bed_requester.proofs.Kept.{turn_kept}
+use Rattle.test_fixture_reach.specs.SmallReach.{sight_of}
+use Rattle.test_fixture_requester.proofs.Kept.{turn_kept}
 use Rattle.bench_engines.proofs.requesting.send.Goals as goal
 
 pub returns-clause-queue : goal.returns-clause-queue

@@ -1,5 +1,5 @@
 use Rattle.std.proofs.Common.{◌∙◌, true, rules}
-use Rattle.ca_bed_requester.proofs.Kept.{at_hand}
+use Rattle.test_fixture_requester.proofs.Kept.{at_hand}
 use Rattle.bench_engines.proofs.requesting.send_next.Goals as goal
 
 pub send-requires-clause-at_hand : goal.send-requires-clause-at_hand

@@ -1,5 +1,5 @@
-use Rattle.ca_bed_reach.specs.SmallReach.{sight_of}
-use Rattle.ca_bed_requester.proofs.Kept.{taking_kept}
+use Rattle.test_fixture_reach.specs.SmallReach.{sight_of}
+use Rattle.test_fixture_requester.proofs.Kept.{taking_kept}
 use Rattle.bench_engines.proofs.requesting.take.Goals as goal
 
 pub returns-clause-queue : goal.returns-clause-queue

@@ -1,18 +1,18 @@
 use Rattle.std.proofs.Common.{◌≡◌, ◌∙◌, refl, sym, ap, subst, Err, true}
-use Rattle.ca_acts_local.specs.ca_acts.Act.{IsAct}
-use Rattle.ca_acts_local.specs.ca_acts.Room.{FitsDone}
+use Rattle.ca_adapter_acts.specs.Act.{IsAct}
+use Rattle.ca_adapter_acts.specs.Room.{FitsDone}
 use Rattle.ca_base.specs.Configuration.{configuration_in}
 use Rattle.ca_base.specs.declared.step.StepError.TheVariants as steps
 use Rattle.ca_base.specs.objects.QueuePair.{Present}
 use Rattle.ca_base.specs.objects.Slices.{has_queue}
-use Rattle.ca_acts_local.specs.ca_held.HeldView.{holding}
-use Rattle.ca_acts_local.specs.ca_held.Parts.{slot_of}
+use Rattle.ca_adapter_parts.specs.HeldView.{holding}
+use Rattle.ca_adapter_parts.specs.Parts.{slot_of}
 use Rattle.ca_model.specs.machine.CanStep.{CanStep}
 use Rattle.ca_model.specs.machine.Frame.{AllPass}
-use Rattle.ca_acts_local.specs.ca_sending.Turn.{IsTurnFound, PerformsFound}
+use Rattle.ca_adapter_local.specs.ca_requester_sends.Turn.{IsTurnFound, PerformsFound}
 use Rattle.ca_adapter.proofs.LotLemmas.{performs-any, touches-any}
 use Rattle.ca_adapter.proofs.WaitLemmas.{waits-performs}
-use Rattle.ca_acts_local.proofs.of_ca_acts_turns.TurnLemmas.{of-present}
+use Rattle.ca_adapter_local.proofs.of_ca_adapter_turns.TurnLemmas.{of-present}
 use Rattle.ca_adapter.proofs.requesting.request.Goals as goal
 
 pub returns-in-Err : goal.returns-in-Err

@@ -1,6 +1,6 @@
 use Rattle.std.proofs.Common.{subst, sym}
-use Rattle.ca_acts_queues.specs.ca_acts.Act.{Suffices}
-use Rattle.ca_acts_queues.specs.ca_acts.Calls.{call_of}
+use Rattle.ca_adapter_acts.specs.Act.{Suffices}
+use Rattle.ca_adapter_acts.specs.Calls.{call_of}
 use Rattle.ca_model.specs.machine.HostVerbs.{load_plan}
 use Rattle.ca_model.specs.machine.RegionVerbs.{reg_mr_plan}
 use Rattle.ca_model.specs.machine.Step.{run_of}

@@ -1,5 +1,5 @@
 use Rattle.std.proofs.Common.{[], ◌∷◌, map}
-use Rattle.ca_order.specs.Visits.{numbers_below}
+use Rattle.ca_script_order.specs.Visits.{numbers_below}
 use Rattle.ca_engine.specs.declared.offer.Offer.TheVariants as variants
 use Rattle.ca_engine.proofs.OfferLemmas.{added, map_more}
 use Rattle.ca_engine.proofs.offers.add_consumers.Goals as goal

@@ -2,7 +2,7 @@ use Rattle.std.proofs.Common.{ℕ, List, map}
 use Rattle.std.specs.List.{flat_map}
 use Rattle.ca_keys.specs.Numbers.{queue_of}
 use Rattle.ca_keys.specs.declared.names.QueueId.{QueueId}
-use Rattle.ca_order.specs.Visits.{numbers_below}
+use Rattle.ca_script_order.specs.Visits.{numbers_below}
 use Rattle.ca_engine.proofs.OfferLemmas.{added, flat_more}
 use Rattle.ca_engine.proofs.offers.add_queues_of_adapter.Goals as goal
 

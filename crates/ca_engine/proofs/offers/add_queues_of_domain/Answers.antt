@@ -1,7 +1,7 @@
 use Rattle.std.proofs.Common.{ℕ, [], ◌∷◌, ◌++◌, map, sym, ap, ◌∙◌}
 use Rattle.ca_keys.specs.Numbers.{queue_of}
 use Rattle.ca_keys.specs.declared.names.QueueId.{QueueId}
-use Rattle.ca_order.specs.Visits.{numbers_below}
+use Rattle.ca_script_order.specs.Visits.{numbers_below}
 use Rattle.ca_engine.proofs.OfferLemmas.{added, map_more}
 use Rattle.ca_engine.proofs.offers.add_queues_of_domain.Goals as goal
 

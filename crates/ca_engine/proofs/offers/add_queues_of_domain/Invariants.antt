@@ -1,6 +1,6 @@
 use Rattle.std.proofs.Common.{◌≡◌, ◌++◌, map}
 use Rattle.ca_keys.specs.Numbers.{queue_of}
-use Rattle.ca_order.specs.Visits.{numbers_below}
+use Rattle.ca_script_order.specs.Visits.{numbers_below}
 use Rattle.ca_engine.proofs.offers.add_queues_of_domain.Given as goal
 
 abbrev pub invariant-loop-slot : goal.invariant-loop-slot

@@ -1,6 +1,6 @@
 use Rattle.std.proofs.Common.{◌≡◌, ◌++◌, map, drop}
 use Rattle.ca_base.specs.Configuration.{adapter_of}
-use Rattle.ca_order.specs.Visits.{queues_from}
+use Rattle.ca_script_order.specs.Visits.{queues_from}
 use Rattle.ca_engine.proofs.offers.queues_of.Given as goal
 
 abbrev pub invariant-loop-adapter : goal.invariant-loop-adapter

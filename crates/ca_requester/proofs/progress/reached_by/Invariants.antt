@@ -1,6 +1,6 @@
 use Rattle.std.proofs.Common.{◌≡◌, ℕ, ◌+◌, ◌-◌, ◌≤◌, Option, IfSome, length, sum_by}
 use Rattle.ca_model.specs.machine.Acknowledgements.{first_unanswered}
-use Rattle.ca_sending.specs.Numbering.{IsWithin, begun_from}
+use Rattle.ca_requester_sends.specs.Numbering.{IsWithin, begun_from}
 use Rattle.ca_requester.specs.Progress.{finished_from, una_behind}
 use Rattle.ca_requester.proofs.progress.reached_by.Given as goal
 

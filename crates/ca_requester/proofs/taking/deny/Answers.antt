@@ -1,6 +1,6 @@
 use Rattle.std.proofs.Common.{subst}
 use Rattle.ca_model.specs.machine.Row.{Effects}
-use Rattle.ca_sending.specs.ca_rows.Made.{IsMade}
+use Rattle.ca_requester_sends.specs.ca_qp_rows.Made.{IsMade}
 use Rattle.ca_requester.proofs.TakingLemmas.{denied_makes}
 use Rattle.ca_requester.proofs.taking.deny.Goals as goal
 

@@ -1,9 +1,9 @@
 use Rattle.std.proofs.Common.{◌≤◌, ap, arith, refl, subst}
 use Rattle.ca_base.specs.objects.QueuePair.{QueuePair}
-use Rattle.ca_sending.proofs.of_ca_rows.WriteLemmas.{marks-count}
-use Rattle.ca_sending.specs.ca_rows.Made.{AreAdded}
-use Rattle.ca_sending.proofs.FinishedLemmas.{few_finished}
-use Rattle.ca_sending.specs.Finished.{success_between}
+use Rattle.ca_requester_sends.proofs.of_ca_qp_rows.WriteLemmas.{marks-count}
+use Rattle.ca_requester_sends.specs.ca_qp_rows.Made.{AreAdded}
+use Rattle.ca_requester_sends.proofs.FinishedLemmas.{few_finished}
+use Rattle.ca_requester_sends.specs.Finished.{success_between}
 use Rattle.ca_requester.proofs.TakingLemmas.{has_answered}
 use Rattle.ca_requester.specs.Progress.{numbers_behind}
 use Rattle.ca_requester.proofs.taking.place_bytes.Goals as goal

@@ -5,8 +5,8 @@ use Rattle.ca_keys.specs.declared.access.Kind.TheVariants as kinds
 use Rattle.ca_base.specs.Sight.{first_denied}
 use Rattle.ca_model.specs.machine.Responses.{answer_asks, answer_bytes}
 use Rattle.ca_model.specs.machine.Row.{Does, ending_of}
-use Rattle.ca_sending.proofs.of_ca_rows.AskLemmas.{can-judge, judge-behind, whole}
-use Rattle.ca_sending.specs.ca_rows.Asks.{AreAsksFor, IsGranted}
+use Rattle.ca_requester_sends.proofs.of_ca_qp_rows.AskLemmas.{can-judge, judge-behind, whole}
+use Rattle.ca_requester_sends.specs.ca_qp_rows.Asks.{AreAsksFor, IsGranted}
 use Rattle.ca_requester.proofs.ResponseLemmas.{is_fit, row_fails}
 use Rattle.ca_requester.proofs.TakingLemmas.{at-first, can_write_by, ends_allowed, ends_denied, none-below, row_asks, taken_by, taken_plain}
 use Rattle.ca_requester.specs.Responses.{answer_effects}

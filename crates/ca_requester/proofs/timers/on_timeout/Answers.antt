@@ -1,7 +1,7 @@
 use Rattle.std.proofs.Common.{◌+◌, ap, arith, rules, subst}
 use Rattle.ca_base.specs.objects.QueuePair.{QueuePair}
 use Rattle.ca_model.specs.machine.Row.{Effects}
-use Rattle.ca_sending.specs.ca_rows.Made.{HasMade}
+use Rattle.ca_requester_sends.specs.ca_qp_rows.Made.{HasMade}
 use Rattle.ca_requester.proofs.TimerLemmas.{timer_retries}
 use Rattle.ca_requester.proofs.timers.on_timeout.Goals as goal
 

@@ -4,12 +4,12 @@ use Rattle.ca_model.specs.machine.Arrivals.{next_receive, with_flag}
 use Rattle.ca_model.specs.machine.Expected.{takes_receive, valid_row}
 use Rattle.ca_model.specs.machine.Row.{Does, Row, plain_row}
 use Rattle.ca_wire.specs.declared.shape.Shape.{Shape}
-use Rattle.ca_operations.specs.Access.{read_effects}
+use Rattle.ca_responder_operations.specs.Access.{read_effects}
 use Rattle.ca_wire.specs.Table.{shape_of}
 use Rattle.ca_psn.specs.Psn.{widened}
 use Rattle.ca_responder.proofs.ArrivalLemmas.{plain_queued, queued_row, taken_plain}
 use Rattle.ca_responder.proofs.WaitingLemmas.{arrived_by, lacks_by}
-use Rattle.ca_operations.specs.Taking.{CanMeet, IsTaken, outcome_in}
+use Rattle.ca_responder_operations.specs.Taking.{CanMeet, IsTaken, outcome_in}
 use Rattle.ca_responder.proofs.request.take_request.Goals as goal
 
 pub take_send-requires-clause-at_hand : goal.take_send-requires-clause-at_hand

@@ -3,7 +3,7 @@ use Rattle.ca_run.proofs.OutputLemmas.{lone-output}
 use Rattle.ca_run.specs.Beside.{status_beside, text_beside}
 use Rattle.ca_run.specs.Status.{is_whole}
 use Rattle.ca_script.specs.Script.{script_value}
-use Rattle.ca_race.specs.ca_script_run.Statuses.{status_value}
+use Rattle.ca_run_race.specs.ca_script_run.Statuses.{status_value}
 use Rattle.ca_run.proofs.alone.run_alone.Goals as goal
 
 pub returns-in-Ok-work_beside-clause-part : goal.returns-in-Ok-work_beside-clause-part

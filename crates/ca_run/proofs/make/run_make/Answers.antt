@@ -2,7 +2,7 @@ use Rattle.std.proofs.Common.{subst}
 use Rattle.ca_outside.specs.Outside.{AppendsPart}
 use Rattle.ca_run.proofs.StatusLemmas.{ended-told}
 use Rattle.ca_run.specs.Status.{status_of_end}
-use Rattle.ca_race.specs.ca_script_run.Statuses.{status_value}
+use Rattle.ca_run_race.specs.ca_script_run.Statuses.{status_value}
 use Rattle.ca_run.proofs.make.run_make.Goals as goal
 
 pub returns-clause-part : goal.returns-clause-part

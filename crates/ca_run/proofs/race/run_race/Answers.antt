@@ -3,7 +3,7 @@ use Rattle.ca_run.proofs.OutputLemmas.{race-output}
 use Rattle.ca_run.proofs.StatusLemmas.{ended-told}
 use Rattle.ca_run.specs.Status.{ended_as, status_of_end}
 use Rattle.ca_script.specs.Script.{script_value}
-use Rattle.ca_race.specs.ca_script_run.Statuses.{status_value}
+use Rattle.ca_run_race.specs.ca_script_run.Statuses.{status_value}
 use Rattle.ca_trace.specs.Trace.{text}
 use Rattle.ca_run.proofs.race.run_race.Goals as goal
 

@@ -1,8 +1,8 @@
 use Rattle.std.proofs.Common.{arith, subst, sym}
 use Rattle.ca_keys.specs.Memory.{zeros}
 use Rattle.ca_model.specs.machine.Run.{Follows}
-use Rattle.ca_order.specs.OfScript as machine
-use Rattle.ca_order.specs.Order.{ending_from, most_rounds}
+use Rattle.ca_script_order.specs.OfScript as machine
+use Rattle.ca_script_order.specs.Order.{ending_from, most_rounds}
 use Rattle.ca_script.specs.Script.{script_value}
 use Rattle.ca_run.proofs.working.race.Goals as goal
 

@@ -1,6 +1,6 @@
 use Rattle.std.proofs.Common.{sym, subst}
-use Rattle.ca_order.specs.OfScript as machine
-use Rattle.ca_order.specs.Order.{ending}
+use Rattle.ca_script_order.specs.OfScript as machine
+use Rattle.ca_script_order.specs.Order.{ending}
 use Rattle.ca_run.specs.Run.{IsTextOf}
 use Rattle.ca_script.specs.Script.{script_value}
 use Rattle.ca_trace.specs.Trace.{text}

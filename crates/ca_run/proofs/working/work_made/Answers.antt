@@ -1,8 +1,8 @@
 use Rattle.std.proofs.Common.{sym, subst}
 use Rattle.std.proofs.lemmas.Result.{IfOk-weaker}
-use Rattle.ca_made.specs.Made.{made_script}
-use Rattle.ca_order.specs.OfScript as machine
-use Rattle.ca_order.specs.Order.{ending}
+use Rattle.ca_script_seed.specs.Made.{made_script}
+use Rattle.ca_script_order.specs.OfScript as machine
+use Rattle.ca_script_order.specs.Order.{ending}
 use Rattle.ca_run.proofs.working.work_made.Goals as goal
 
 pub returns-clause-worked : goal.returns-clause-worked

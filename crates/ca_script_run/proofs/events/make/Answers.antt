@@ -1,6 +1,6 @@
 use Rattle.std.proofs.Common.{subst, Err}
 use Rattle.ca_model.specs.machine.Step.{step}
-use Rattle.ca_replay.specs.Rows.{IsMade, IsRowOf}
+use Rattle.ca_adapter_store.specs.Rows.{IsMade, IsRowOf}
 use Rattle.ca_script_run.proofs.EventLemmas.{entry_stands, tried_in_vain, tried_made}
 use Rattle.ca_script_run.proofs.events.make.Goals as goal
 

@@ -1,6 +1,6 @@
 use Rattle.std.proofs.Common.{[], sym, subst, Ok}
-use Rattle.ca_replay.specs.Hand.{names_of}
-use Rattle.ca_replay.specs.Rest.{KeepsRest}
+use Rattle.ca_adapter_store.specs.Hand.{names_of}
+use Rattle.ca_adapter_store.specs.Rest.{KeepsRest}
 use Rattle.ca_script_run.proofs.EventLemmas.{left_otherwise}
 use Rattle.ca_script_run.proofs.KnownLemmas.{left_still}
 use Rattle.ca_script_run.specs.Progress.{IsLeftBy, IsTried}

@@ -1,5 +1,5 @@
 use Rattle.std.proofs.Common.{◌≡◌, drop}
-use Rattle.ca_order.specs.OfScript.{lines_at}
+use Rattle.ca_script_order.specs.OfScript.{lines_at}
 use Rattle.ca_script_run.proofs.status.line_awaited.Given as goal
 
 -- each line before this one is passed

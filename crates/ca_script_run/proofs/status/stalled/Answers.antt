@@ -1,5 +1,5 @@
 use Rattle.std.proofs.Common.{◌∙◌, ap, arith, sym}
-use Rattle.ca_order.specs.OfScript.{stalled_from}
+use Rattle.ca_script_order.specs.OfScript.{stalled_from}
 use Rattle.ca_script_run.proofs.StatusLemmas.{nobody_left}
 use Rattle.ca_script_run.proofs.status.stalled.Goals as goal
 

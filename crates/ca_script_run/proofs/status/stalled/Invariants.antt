@@ -1,5 +1,5 @@
 use Rattle.std.proofs.Common.{◌≡◌, drop}
-use Rattle.ca_order.specs.OfScript.{stalled_from}
+use Rattle.ca_script_order.specs.OfScript.{stalled_from}
 use Rattle.ca_script_run.specs.Progress.{lines_behind}
 use Rattle.ca_script_run.proofs.status.stalled.Given as goal
 

@@ -1,5 +1,5 @@
 use Rattle.std.proofs.Common.{◌∙◌, ap, sym, subst, slice_get}
-use Rattle.ca_order.specs.Order.{lines_of}
+use Rattle.ca_script_order.specs.Order.{lines_of}
 use Rattle.ca_script.specs.Script.{script_value}
 use Rattle.ca_script_run.proofs.KnownLemmas.{same_known}
 use Rattle.ca_script_run.proofs.VisitLemmas.{Stands, stands_before}

@@ -1,6 +1,6 @@
 use Rattle.std.proofs.Common.{◌≡◌, ◌∙◌, ap, length, replicate, rules}
 use Rattle.ca_base.specs.Configuration.{configuration_of}
-use Rattle.ca_replay.specs.ca_opening.Opening.{opening_bytes}
+use Rattle.ca_adapter_store.specs.ca_adapter_opening.Opening.{opening_bytes}
 use Rattle.ca_script.specs.Script.{script_value}
 use Rattle.ca_script_run.proofs.OpenLemmas.{at_opening}
 use Rattle.ca_script_run.proofs.work.open.Goals as goal

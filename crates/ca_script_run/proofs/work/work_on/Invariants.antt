@@ -1,4 +1,4 @@
-use Rattle.ca_order.specs.Order.{Stage}
+use Rattle.ca_script_order.specs.Order.{Stage}
 use Rattle.ca_script.specs.Script.{script_value}
 use Rattle.ca_script_run.specs.Progress.{IsAt}
 use Rattle.ca_script_run.specs.Working.{IsWorkingOn}

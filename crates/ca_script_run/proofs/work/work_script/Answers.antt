@@ -1,5 +1,5 @@
 use Rattle.std.proofs.Common.{subst, sym}
-use Rattle.ca_order.specs.Order.{opening_stage}
+use Rattle.ca_script_order.specs.Order.{opening_stage}
 use Rattle.ca_script.specs.Script.{script_value}
 use Rattle.ca_script_run.proofs.OpenLemmas.{opened_at, opened_history, opened_row, opened_status}
 use Rattle.ca_script_run.specs.Working.{IsWorkable}

@@ -1,7 +1,7 @@
 use Rattle.std.proofs.Common.{subst, sym, Err, Ok}
 use Rattle.ca_parts.specs.Rows.{settings_of, view_of}
-use Rattle.ca_taking.proofs.UnpackLemmas.{back-apart, placed-of}
-use Rattle.ca_taking.specs.Asking.{asked_of}
+use Rattle.ca_verbs_taking.proofs.UnpackLemmas.{back-apart, placed-of}
+use Rattle.ca_verbs_taking.specs.Asking.{asked_of}
 use Rattle.ca_verbs.proofs.ActedLemmas as acted
 use Rattle.ca_verbs.specs.Tried.{WasNotMade}
 use Rattle.ca_verbs.proofs.acting.act_in_hand.Goals as goal

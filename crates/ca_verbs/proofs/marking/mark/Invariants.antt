@@ -1,5 +1,5 @@
-use Rattle.ca_taking.specs.Asking.{asked_of}
-use Rattle.ca_taking.specs.Holding.{hand_of}
+use Rattle.ca_verbs_taking.specs.Asking.{asked_of}
+use Rattle.ca_verbs_taking.specs.Holding.{hand_of}
 use Rattle.ca_verbs.specs.Tried.{told_of}
 use Rattle.ca_verbs.proofs.marking.mark.Given as goal
 

@@ -1,5 +1,5 @@
 use Rattle.std.proofs.Common.{◌≡◌, ◌+◌, ◌≤◌, ◌++◌, map, reverse, vec_len, vec_capacity}
-use Rattle.ca_fabric_machine.specs.Values.{value_of}
+use Rattle.ca_verbs_machine.specs.Values.{value_of}
 use Rattle.ca_verbs.proofs.starting.shared.Given as goal
 
 abbrev pub invariant-loop-part : goal.invariant-loop-part

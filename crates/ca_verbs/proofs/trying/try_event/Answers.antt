@@ -1,6 +1,6 @@
 use Rattle.std.proofs.Common.{subst, sym}
 use Rattle.ca_parts.specs.Rows.{settings_of, view_of}
-use Rattle.ca_taking.specs.Asking.{asked_of}
+use Rattle.ca_verbs_taking.specs.Asking.{asked_of}
 use Rattle.ca_verbs.proofs.ActedLemmas.{stopped-as}
 use Rattle.ca_verbs.specs.Tried.{WasNotMade}
 use Rattle.ca_verbs.proofs.trying.try_event.Goals as goal

@@ -1,5 +1,5 @@
 use Rattle.std.proofs.Common.{sym, subst}
-use Rattle.ca_fabric_machine.specs.declared.asked.Asked.TheVariants as asks
+use Rattle.ca_verbs_machine.specs.declared.asked.Asked.TheVariants as asks
 use Rattle.ca_parts.specs.Rows.{settings_of, view_of}
 use Rattle.ca_verbs.proofs.ActedLemmas.{none-due, stopped-as, turn-event}
 use Rattle.ca_verbs.specs.Tried.{WasNotMade}

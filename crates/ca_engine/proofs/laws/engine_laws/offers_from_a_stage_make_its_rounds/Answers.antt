@@ -1,7 +1,7 @@
 use Rattle.std.proofs.Common.{ap, arith, subst, sym}
-use Rattle.ca_order.proofs.QuietLemmas.{rounds-ended}
-use Rattle.ca_order.specs.OfScript.{HasEnded}
-use Rattle.ca_order.specs.Order.{Stage, most_rounds}
+use Rattle.ca_script_order.proofs.QuietLemmas.{rounds-ended}
+use Rattle.ca_script_order.specs.OfScript.{HasEnded}
+use Rattle.ca_script_order.specs.Order.{Stage, most_rounds}
 use Rattle.ca_engine.proofs.LoopLemmas.{loop-made-from}
 use Rattle.ca_engine.proofs.laws.engine_laws.offers_from_a_stage_make_its_rounds.Goals as goal
 

@@ -1,7 +1,7 @@
 use Rattle.std.proofs.Common.{ap, reverse, subst, sym}
-use Rattle.ca_order.proofs.QuietLemmas.{order-ended}
-use Rattle.ca_order.specs.OfScript.{HasEnded}
-use Rattle.ca_order.specs.Order.{Stage}
+use Rattle.ca_script_order.proofs.QuietLemmas.{order-ended}
+use Rattle.ca_script_order.specs.OfScript.{HasEnded}
+use Rattle.ca_script_order.specs.Order.{Stage}
 use Rattle.ca_engine.proofs.LoopLemmas.{loop-made}
 use Rattle.ca_engine.proofs.laws.engine_laws.offers_make_the_order.Goals as goal
 

@@ -1,6 +1,6 @@
 use Rattle.std.proofs.Common.{arith, subst}
 use Rattle.std.proofs.lemmas.List.{drop_more}
-use Rattle.ca_replay.specs.Hand.{names_of}
+use Rattle.ca_adapter_store.specs.Hand.{names_of}
 use Rattle.ca_script_run.proofs.KnownLemmas.{all_forgotten, left_first}
 use Rattle.ca_script_run.specs.Known.{AreLeft}
 use Rattle.ca_script_run.proofs.known.Known.forget.Goals as goal

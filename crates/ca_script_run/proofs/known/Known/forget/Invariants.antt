@@ -2,7 +2,7 @@ use Rattle.std.proofs.Common.{drop}
 use Rattle.ca_engine.specs.declared.offer.Offer.{Offer}
 use Rattle.ca_model.specs.machine.World.{World}
 use Rattle.std.proofs.Common.{List}
-use Rattle.ca_replay.specs.Hand.{names_of}
+use Rattle.ca_adapter_store.specs.Hand.{names_of}
 use Rattle.ca_script_run.specs.Known.{AreKnown, AreLeft}
 use Rattle.ca_script_run.proofs.known.Known.forget.Given as goal
 

@@ -1,6 +1,6 @@
 use Rattle.std.proofs.Common.{rules, ap, refl}
 use Rattle.ca_model.specs.declared.event.Event.TheVariants as events
-use Rattle.ca_fabric_machine.specs.declared.asked.Asked.TheVariants as asks
+use Rattle.ca_verbs_machine.specs.declared.asked.Asked.TheVariants as asks
 use Rattle.ca_parts.specs.Rows.{view_of}
 use Rattle.ca_verbs.proofs.ReceiptLemmas.{receipt-of}
 use Rattle.ca_verbs.proofs.fabric.Fabric.try_verb.Goals as goal

@@ -1,5 +1,5 @@
 use Rattle.std.proofs.Common.{subst}
-use Rattle.ca_fabric_machine.specs.declared.asked.Asked.TheVariants as asks
+use Rattle.ca_verbs_machine.specs.declared.asked.Asked.TheVariants as asks
 use Rattle.ca_model.specs.declared.event.Event.TheVariants as events
 use Rattle.ca_verbs.specs.Passes.{known_of, settings_in}
 use Rattle.ca_verbs.specs.Tried.{WasNotMade}

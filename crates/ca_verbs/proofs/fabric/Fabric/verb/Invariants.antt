@@ -1,4 +1,4 @@
-use Rattle.ca_taking.specs.Taking.{SameRecord}
+use Rattle.ca_verbs_taking.specs.Taking.{SameRecord}
 use Rattle.ca_verbs.specs.Passes.{IsOf, known_of}
 use Rattle.ca_verbs.proofs.fabric.Fabric.verb.Given as goal
 

@@ -1,9 +1,0 @@
-pub mod Act
-pub mod Calls
-pub mod Copies
-pub mod Binders
-pub mod Room
-pub mod Outlets
-pub mod Steps
--- The libraries below, handed on to those above.
-pub use Rattle.ca_held.specs as ca_held

@@ -1,5 +1,0 @@
-use Rattle.ca_acts_local.proofs.PlanLemmas.{lots-perform, lots-touch}
-use Rattle.ca_acts_local.proofs.laws.operation_goes_by_no_lot.Goals as goal
-
-pub returns : goal.returns
-returns c = record { does = lots-perform; touches = lots-touch }

@@ -1,6 +1,0 @@
-pub mod Names
-pub mod Departures
-pub mod Destroyed
-pub mod Changed
--- The libraries below, handed on to those above.
-pub use Rattle.ca_held.specs as ca_held

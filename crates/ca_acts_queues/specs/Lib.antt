@@ -1,4 +1,0 @@
-pub mod Drawing
-pub mod Posting
--- The libraries below, handed on to those above.
-pub use Rattle.ca_acts.specs as ca_acts

@@ -1,6 +1,0 @@
-pub mod Flush
-pub mod Numbers
-pub mod Sending
--- The libraries below, handed on to those above.
-pub use Rattle.ca_rows.specs.ca_qpstate
-pub use Rattle.ca_rows.specs as ca_rows

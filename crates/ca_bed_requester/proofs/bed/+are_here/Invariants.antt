@@ -1,5 +1,0 @@
-use Rattle.std.proofs.Common.{length}
-use Rattle.ca_bed_requester.proofs.bed.+are_here.Given as goal
-
-abbrev pub decreases-are_here : goal.decreases-are_here
-decreases-are_here l = length l.asks.now

@@ -1,5 +1,0 @@
-use Rattle.std.proofs.Common.{length}
-use Rattle.ca_bed_requester.proofs.bed.+holds.Given as goal
-
-abbrev pub decreases-holds : goal.decreases-holds
-decreases-holds l = length l.list.now

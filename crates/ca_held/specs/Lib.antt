@@ -1,6 +1,0 @@
-pub mod Parts
-pub mod HeldView
-pub mod Taking
-pub mod Lending
--- The libraries below, handed on to those above.
-pub use Rattle.ca_held_reach.specs as ca_held_reach

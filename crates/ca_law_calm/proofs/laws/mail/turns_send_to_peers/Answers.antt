@@ -1,5 +1,0 @@
-use Rattle.ca_law_calm.proofs.AddressLemmas.{packet-for, respond-for}
-use Rattle.ca_law_calm.proofs.laws.mail.turns_send_to_peers.Goals as goal
-
-pub returns : goal.returns
-returns c = record { request = packet-for; respond = respond-for }

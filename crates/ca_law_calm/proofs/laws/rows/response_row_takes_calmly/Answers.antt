@@ -1,5 +1,0 @@
-use Rattle.ca_law_calm.proofs.CalmRows.{response-calm}
-use Rattle.ca_law_calm.proofs.laws.rows.response_row_takes_calmly.Goals as goal
-
-pub returns : goal.returns
-returns c = response-calm

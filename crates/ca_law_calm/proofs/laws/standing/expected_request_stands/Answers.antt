@@ -1,5 +1,0 @@
-use Rattle.ca_law_calm.proofs.StandLemmas.{request-stands}
-use Rattle.ca_law_calm.proofs.laws.standing.expected_request_stands.Goals as goal
-
-pub returns : goal.returns
-returns c = request-stands

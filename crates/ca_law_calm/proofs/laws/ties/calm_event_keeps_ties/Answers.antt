@@ -1,5 +1,0 @@
-use Rattle.ca_law_calm.proofs.EventCalm.{event-calm}
-use Rattle.ca_law_calm.proofs.laws.ties.calm_event_keeps_ties.Goals as goal
-
-pub returns : goal.returns
-returns c = event-calm

@@ -1,6 +1,0 @@
-use Rattle.std.proofs.Common.{◌≡◌, ◌-◌, ◌++◌}
-use Rattle.ca_made.specs.Made.{each_from, active}
-use Rattle.ca_made.proofs.script.add_active.Given as goal
-
-abbrev pub invariant-loop-d : goal.invariant-loop-d
-invariant-loop-d l = l.consumers.items ++ each_from (active l.seed) l.d (4 - l.d) ≡ l.fn.consumers.items ++ each_from (active l.seed) 0 4

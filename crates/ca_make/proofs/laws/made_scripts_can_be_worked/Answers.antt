@@ -1,7 +1,0 @@
-use Rattle.ca_make.proofs.MadeLemmas.{made-buffers, made-keeps}
-use Rattle.ca_make.proofs.RequestLemmas.{made-requests}
-use Rattle.ca_make.proofs.WorkableLemmas.{made-workable}
-use Rattle.ca_make.proofs.laws.made_scripts_can_be_worked.Goals as goal
-
-pub returns : goal.returns
-returns c = record { limits = made-keeps; workable = made-workable; buffers = made-buffers; requests = made-requests }

@@ -1,0 +1,98 @@
+-- Written by tools/check_traces from examples/traces/ordered-receives-out-of-order.trace.
+-- The history of the trace, and what holds of it. For proofs only.
+use Rattle.std.proofs.Common.{◌≡◌, List, [], ◌∷◌, true, false, None, Some, refl}
+use Rattle.ca_keys.specs.declared.access.Kind.TheVariants as kinds
+use Rattle.ca_base.specs.declared.change.Change.TheVariants as changes
+use Rattle.ca_base.specs.declared.completion.WcOp.TheVariants as operations
+use Rattle.ca_base.specs.declared.completion.WcStatus.TheVariants as statuses
+use Rattle.ca_base.specs.declared.lot.Lot.TheVariants as lots
+use Rattle.ca_base.specs.declared.request.SendOp.TheVariants as ops
+use Rattle.ca_keys.specs.declared.verdict.Verdict.TheVariants as verdicts
+use Rattle.ca_model.specs.declared.answer.Answer.TheVariants as answers
+use Rattle.ca_model.specs.declared.event.Event.TheVariants as events
+use Rattle.ca_model.specs.declared.mark.Mark.TheVariants as marks
+use Rattle.ca_model.specs.declared.verb.Verb.TheVariants as verbs
+use Rattle.ca_keys.specs.Memory.{zeros}
+use Rattle.ca_wire.specs.Decoding.{number_at, bth_at, front_at, reth_from, atomic_from, aeth_from, number_from, payload_at, payload_behind, body_in, packet_in}
+use Rattle.ca_wire.specs.Packet.{be_bytes, packet_bytes}
+use Rattle.ca_wire.specs.Table.{row_of}
+use Rattle.ca_model.specs.Entries.{EntryValue}
+use Rattle.ca_model.specs.Judged.{is_judged_history}
+use Rattle.ca_model.specs.Licensed.{is_licensed_history}
+use Rattle.ca_model.specs.Carried.{is_carried_history}
+use Rattle.ca_model.specs.Once.{is_once_history}
+use Rattle.ca_law_once.specs.Written.{is_written_history, is_written_once_history}
+use Rattle.ca_model.specs.Caused.{is_caused_history}
+use Rattle.ca_model.specs.Ordered.{is_ordered_history}
+use Rattle.ca_model.proofs.Literals.{d, s, q, k, r, run, piece, list, request, receive, completion, grant, entry}
+use Rattle.ca_model_traces.proofs.Entries.{called, hex}
+
+abbrev history : List EntryValue
+history =
+    called 0 0 0 (verbs.AllocPd (d 0 0)) answers.Fine []
+    ∷ called 1 0 1 (verbs.AllocPd (d 1 0)) answers.Fine []
+    ∷ called 2 0 0 (verbs.CreateCq (s 0 0 0) 8) answers.Fine []
+    ∷ called 3 0 1 (verbs.CreateCq (s 1 0 0) 8) answers.Fine []
+    ∷ called 4 0 0 (verbs.CreateQp (s 0 0 0) 0 0 4 4 None) (answers.Queue 256 1) []
+    ∷ called 5 0 1 (verbs.CreateSrq (s 1 0 0) 4) answers.Fine []
+    ∷ called 6 0 0 (verbs.RegMr (s 0 0 0) 0 0 4096 (r true true true true true)) (answers.Key (k 1)) (marks.Granted (grant (k 1) (d 0 0) None true 4294967296 4096 (r true true true true true) ((run 0 0 0 4096) ∷ [])) ∷ [])
+    ∷ called 7 0 1 (verbs.CreateQp (s 1 0 0) 0 0 4 0 (Some 0)) (answers.Queue 256 1) []
+    ∷ called 8 0 0 (verbs.ModifyQp (s 0 0 0) changes.Init) answers.Fine []
+    ∷ called 9 0 1 (verbs.RegMr (s 1 0 0) 0 0 4096 (r true true true true true)) (answers.Key (k 1)) (marks.Granted (grant (k 1) (d 1 0) None true 4294967296 4096 (r true true true true true) ((run 1 0 0 4096) ∷ [])) ∷ [])
+    ∷ called 10 0 0 (verbs.ModifyQp (s 0 0 0) (changes.Rtr (q 1 256) 1 0 256 12)) answers.Fine []
+    ∷ called 11 0 1 (verbs.ModifyQp (s 1 0 0) changes.Init) answers.Fine []
+    ∷ called 12 0 0 (verbs.ModifyQp (s 0 0 0) (changes.Rts 0 7 7 16)) answers.Fine []
+    ∷ called 13 0 1 (verbs.ModifyQp (s 1 0 0) (changes.Rtr (q 0 256) 1 0 256 12)) answers.Fine []
+    ∷ called 14 0 0 (verbs.PostSend (s 0 0 0) (request 1 true false false (ops.Send (list ((piece 1 4294967296 4) ∷ []))))) (answers.Posted None) []
+    ∷ called 15 0 1 (verbs.ModifyQp (s 1 0 0) (changes.Rts 0 7 7 16)) answers.Fine []
+    ∷ entry 16 0 (events.Request (q 0 256) lots.Pass) (marks.Local (q 0 256) (d 0 0) (k 1) kinds.Read 4294967296 4 (verdicts.Read (hex "00000000")) ∷ marks.Sent (q 0 256) (q 1 256) (Some 0) (Some 0) (hex "0400ffff000001008000000000000000") ∷ [])
+    ∷ entry 17 0 (events.Deliver (q 1 256) 0) (marks.Arrived (q 1 256) (Some 0) ∷ [])
+    ∷ entry 18 0 (events.Respond (q 1 256) lots.Pass) (marks.Sent (q 1 256) (q 0 256) (Some 0) None (hex "1100ffff00000100000000002c000000") ∷ [])
+    ∷ called 19 0 1 (verbs.Load 1 0 0 1) (answers.Loaded (hex "00")) []
+    ∷ entry 20 0 (events.Deliver (q 0 256) 0) (marks.Arrived (q 0 256) (Some 0) ∷ [])
+    ∷ called 21 0 1 (verbs.Load 1 0 0 1) (answers.Loaded (hex "00")) []
+    ∷ called 22 0 1 (verbs.Load 1 0 0 1) (answers.Loaded (hex "00")) []
+    ∷ called 23 0 1 (verbs.Load 1 0 0 1) (answers.Loaded (hex "00")) []
+    ∷ called 24 0 1 (verbs.Load 1 0 0 1) (answers.Loaded (hex "00")) []
+    ∷ called 25 0 1 (verbs.Load 1 0 0 1) (answers.Loaded (hex "00")) []
+    ∷ called 26 0 1 (verbs.Load 1 0 0 1) (answers.Loaded (hex "00")) []
+    ∷ called 27 0 1 (verbs.Load 1 0 0 1) (answers.Loaded (hex "00")) []
+    ∷ called 28 0 1 (verbs.Load 1 0 0 1) (answers.Loaded (hex "00")) []
+    ∷ called 29 0 1 (verbs.Load 1 0 0 1) (answers.Loaded (hex "00")) []
+    ∷ called 30 0 1 (verbs.PostSrq (s 1 0 0) (receive 9 (list ((piece 1 4294967296 64) ∷ [])))) (answers.Posted None) []
+    ∷ entry 31 0 (events.RnrWake (q 0 256)) []
+    ∷ entry 32 0 (events.Request (q 0 256) lots.Pass) (marks.Local (q 0 256) (d 0 0) (k 1) kinds.Read 4294967296 4 (verdicts.Read (hex "00000000")) ∷ marks.Sent (q 0 256) (q 1 256) (Some 1) (Some 0) (hex "0400ffff000001008000000000000000") ∷ [])
+    ∷ entry 33 0 (events.Deliver (q 1 256) 1) (marks.Arrived (q 1 256) (Some 1) ∷ marks.Local (q 1 256) (d 1 0) (k 1) kinds.Write 4294967296 4 (verdicts.Wrote (hex "00000000")) ∷ marks.Done (q 1 256) (completion (q 1 256) true 1 9 operations.Recv statuses.Success 4 None None) None ∷ marks.Done (q 1 256) (completion (q 1 256) true 0 9 operations.Recv statuses.Success 4 None None) None ∷ [])
+    ∷ []
+
+judged : is_judged_history zeros history ≡ true
+unfolding row_of be_bytes packet_bytes number_at bth_at front_at reth_from atomic_from aeth_from number_from payload_at payload_behind body_in packet_in
+judged = refl
+
+licensed : is_licensed_history zeros history ≡ true
+unfolding row_of be_bytes packet_bytes number_at bth_at front_at reth_from atomic_from aeth_from number_from payload_at payload_behind body_in packet_in
+licensed = refl
+
+carried : is_carried_history zeros history ≡ true
+unfolding row_of be_bytes packet_bytes number_at bth_at front_at reth_from atomic_from aeth_from number_from payload_at payload_behind body_in packet_in
+carried = refl
+
+once : is_once_history zeros history ≡ true
+unfolding row_of be_bytes packet_bytes number_at bth_at front_at reth_from atomic_from aeth_from number_from payload_at payload_behind body_in packet_in
+once = refl
+
+written : is_written_history zeros history ≡ true
+unfolding row_of be_bytes packet_bytes number_at bth_at front_at reth_from atomic_from aeth_from number_from payload_at payload_behind body_in packet_in
+written = refl
+
+written_once : is_written_once_history zeros history ≡ true
+unfolding row_of be_bytes packet_bytes number_at bth_at front_at reth_from atomic_from aeth_from number_from payload_at payload_behind body_in packet_in
+written_once = refl
+
+caused : is_caused_history zeros history ≡ true
+unfolding row_of be_bytes packet_bytes number_at bth_at front_at reth_from atomic_from aeth_from number_from payload_at payload_behind body_in packet_in
+caused = refl
+
+ordered : is_ordered_history zeros history ≡ false
+unfolding row_of be_bytes packet_bytes number_at bth_at front_at reth_from atomic_from aeth_from number_from payload_at payload_behind body_in packet_in
+ordered = refl

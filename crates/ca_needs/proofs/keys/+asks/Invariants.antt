@@ -1,5 +1,0 @@
-use Rattle.std.proofs.Common.{length}
-use Rattle.ca_needs.proofs.keys.+asks.Given as goal
-
-abbrev pub decreases-asks : goal.decreases-asks
-decreases-asks l = length l.list.now

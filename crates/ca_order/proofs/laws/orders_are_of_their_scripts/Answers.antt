@@ -1,5 +1,0 @@
-use Rattle.ca_order.proofs.ScriptLemmas.{order-told}
-use Rattle.ca_order.proofs.laws.orders_are_of_their_scripts.Goals as goal
-
-pub returns : goal.returns
-returns c = order-told

@@ -1,5 +1,0 @@
-use Rattle.ca_order.proofs.QuietLemmas.{order-ended}
-use Rattle.ca_order.proofs.laws.orders_end.Goals as goal
-
-pub returns : goal.returns
-returns c = order-ended

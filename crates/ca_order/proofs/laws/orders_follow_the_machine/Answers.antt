@@ -1,5 +1,0 @@
-use Rattle.ca_order.proofs.FollowLemmas.{order-follows}
-use Rattle.ca_order.proofs.laws.orders_follow_the_machine.Goals as goal
-
-pub returns : goal.returns
-returns c = order-follows

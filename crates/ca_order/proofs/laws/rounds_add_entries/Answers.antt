@@ -1,5 +1,0 @@
-use Rattle.ca_order.proofs.AddLemmas.{rounds-add}
-use Rattle.ca_order.proofs.laws.rounds_add_entries.Goals as goal
-
-pub returns : goal.returns
-returns c = rounds-add

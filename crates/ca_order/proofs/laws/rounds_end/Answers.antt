@@ -1,5 +1,0 @@
-use Rattle.ca_order.proofs.QuietLemmas.{rounds-ended}
-use Rattle.ca_order.proofs.laws.rounds_end.Goals as goal
-
-pub returns : goal.returns
-returns c = rounds-ended

@@ -1,5 +1,0 @@
-use Rattle.ca_order.proofs.FollowLemmas.{rounds-follow}
-use Rattle.ca_order.proofs.laws.rounds_follow_the_machine.Goals as goal
-
-pub returns : goal.returns
-returns c = rounds-follow

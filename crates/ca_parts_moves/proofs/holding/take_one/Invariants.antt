@@ -1,4 +1,0 @@
-use Rattle.ca_parts_moves.proofs.holding.take_one.Given as goal
-
-abbrev pub ghost-try_take : goal.ghost-try_take
-ghost-try_take g a = g.event

@@ -1,5 +1,0 @@
-use Rattle.ca_race.proofs.MergeLemmas.{IsMerging}
-use Rattle.ca_race.proofs.merging.add_done.Given as goal
-
-abbrev pub invariant-loop-consumer : goal.invariant-loop-consumer
-invariant-loop-consumer l = IsMerging l.initial.done.items l.more l.done.items l.consumer

@@ -1,5 +1,0 @@
-use Rattle.ca_race_laws.proofs.WalkLemmas.{of-script}
-use Rattle.ca_race_laws.proofs.laws.worked_histories_are_of_their_scripts.Goals as goal
-
-pub returns : goal.returns
-returns c = of-script

@@ -1,5 +1,0 @@
-use Rattle.ca_reach_laws.proofs.FitLemmas.{parts-fit}
-use Rattle.ca_reach_laws.proofs.laws.held_parts_fit.Goals as goal
-
-pub returns : goal.returns
-returns c = parts-fit

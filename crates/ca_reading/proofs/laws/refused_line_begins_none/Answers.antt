@@ -1,5 +1,0 @@
-use Rattle.ca_reading.proofs.ReadLemmas.{refused_begins_none}
-use Rattle.ca_reading.proofs.laws.refused_line_begins_none.Goals as goal
-
-pub returns : goal.returns
-returns c = λ lines line r es. refused_begins_none lines r es line

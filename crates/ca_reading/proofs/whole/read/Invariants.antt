@@ -1,9 +1,0 @@
-use Rattle.std.proofs.Common.{length}
-use Rattle.ca_reading.specs.Reader.{HasRead}
-use Rattle.ca_reading.proofs.whole.read.Given as goal
-
-abbrev pub invariant-lines : goal.invariant-lines
-invariant-lines l = HasRead l.bytes l.rest l.reader l.history
-
-abbrev pub decreases-lines : goal.decreases-lines
-decreases-lines l = length l.rest

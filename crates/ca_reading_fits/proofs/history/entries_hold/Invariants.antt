@@ -1,8 +1,0 @@
-use Rattle.std.proofs.Common.{take}
-use Rattle.std.specs.List.{AllByRecursion}
-use Rattle.ca_model.specs.Entries.{entry_of}
-use Rattle.ca_reading_fits.specs.Histories.{EntryHolds}
-use Rattle.ca_reading_fits.proofs.history.entries_hold.Given as goal
-
-abbrev pub invariant-loop-entry : goal.invariant-loop-entry
-invariant-loop-entry l = AllByRecursion (λ e. EntryHolds (entry_of e)) (take l.entry-index l.entries)

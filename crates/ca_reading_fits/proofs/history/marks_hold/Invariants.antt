@@ -1,7 +1,0 @@
-use Rattle.std.proofs.Common.{take}
-use Rattle.std.specs.List.{AllByRecursion}
-use Rattle.ca_reading_fits.specs.Histories.{MarkHolds}
-use Rattle.ca_reading_fits.proofs.history.marks_hold.Given as goal
-
-abbrev pub invariant-loop-mark : goal.invariant-loop-mark
-invariant-loop-mark l = AllByRecursion MarkHolds (take l.mark-index l.marks)

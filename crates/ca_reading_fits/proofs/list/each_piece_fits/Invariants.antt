@@ -1,7 +1,0 @@
-use Rattle.std.proofs.Common.{take}
-use Rattle.std.specs.List.{AllByRecursion}
-use Rattle.ca_reading_words.specs.Fits.{PieceFits}
-use Rattle.ca_reading_fits.proofs.list.each_piece_fits.Given as goal
-
-abbrev pub invariant-loop-piece : goal.invariant-loop-piece
-invariant-loop-piece l = AllByRecursion PieceFits (take l.piece-index l.list)

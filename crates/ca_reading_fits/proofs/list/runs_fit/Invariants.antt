@@ -1,7 +1,0 @@
-use Rattle.std.proofs.Common.{take}
-use Rattle.std.specs.List.{AllByRecursion}
-use Rattle.ca_reading_words.specs.Fits.{RunFits}
-use Rattle.ca_reading_fits.proofs.list.runs_fit.Given as goal
-
-abbrev pub invariant-loop-run : goal.invariant-loop-run
-invariant-loop-run l = AllByRecursion RunFits (take l.run-index l.runs)

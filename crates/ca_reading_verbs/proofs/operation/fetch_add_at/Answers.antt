@@ -1,8 +1,0 @@
-use Rattle.std.proofs.Common.{arith}
-use Rattle.std.proofs.lemmas.Grind.{common_steps}
-use Rattle.ca_reading_verbs.specs.Operations.{fetch_add_at}
-use Rattle.ca_reading_verbs.proofs.operation.fetch_add_at.Goals as goal
-
-pub returns : goal.returns
-unfolding fetch_add_at
-returns c = grind (arith, common_steps)

@@ -1,8 +1,0 @@
-use Rattle.std.proofs.Common.{arith}
-use Rattle.std.proofs.lemmas.Grind.{common_steps}
-use Rattle.ca_reading_verbs.specs.Verbs.{wait_at}
-use Rattle.ca_reading_verbs.proofs.verb.wait_at.Goals as goal
-
-pub returns : goal.returns
-unfolding wait_at
-returns c = grind (arith, common_steps)

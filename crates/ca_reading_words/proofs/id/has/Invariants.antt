@@ -1,6 +1,0 @@
-use Rattle.std.proofs.Common.{◌≡◌, drop}
-use Rattle.ca_reading_words.specs.Words.{has}
-use Rattle.ca_reading_words.proofs.id.has.Given as goal
-
-abbrev pub invariant-loop-b : goal.invariant-loop-b
-invariant-loop-b l = has l.c (drop l.b-index l.word) ≡ has l.c l.word

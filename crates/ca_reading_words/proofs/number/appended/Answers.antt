@@ -1,6 +1,0 @@
-use Rattle.std.proofs.Common.{arith}
-use Rattle.std.proofs.lemmas.Grind.{common_steps}
-use Rattle.ca_reading_words.proofs.number.appended.Goals as goal
-
-pub returns-else-next-most : goal.returns-else-next-most
-returns-else-next-most c = grind (arith, common_steps)

@@ -1,0 +1,6 @@
+use Rattle.std.proofs.Common.{length}
+use Rattle.ca_requester_sends.specs.Numbering.{numbers_from}
+use Rattle.ca_requester_sends.proofs.turn.+has_more_answers.Given as goal
+
+abbrev pub decreases-has_more_answers : goal.decreases-has_more_answers
+decreases-has_more_answers l = length (numbers_from l.posting l.first l.q.now)

@@ -1,7 +1,0 @@
-pub mod FinishedLemmas
-pub mod NumberingLemmas
-pub mod OutcomeLemmas
-pub mod PacketLemmas
-pub mod TurnLemmas
--- The libraries below, handed on to those above.
-pub use Rattle.ca_rows.proofs as of_ca_rows

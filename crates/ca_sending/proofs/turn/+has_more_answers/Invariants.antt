@@ -1,6 +1,0 @@
-use Rattle.std.proofs.Common.{length}
-use Rattle.ca_sending.specs.Numbering.{numbers_from}
-use Rattle.ca_sending.proofs.turn.+has_more_answers.Given as goal
-
-abbrev pub decreases-has_more_answers : goal.decreases-has_more_answers
-decreases-has_more_answers l = length (numbers_from l.posting l.first l.q.now)

@@ -1,4 +1,0 @@
-use Rattle.ca_tests_verbs.proofs.tests.passes.+spread.Given as goal
-
-abbrev pub decreases-spread : goal.decreases-spread
-decreases-spread l = l.splits

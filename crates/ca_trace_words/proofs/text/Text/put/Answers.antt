@@ -1,5 +1,0 @@
-use Rattle.ca_trace_words.proofs.TextLemmas.{text_behind}
-use Rattle.ca_trace_words.proofs.text.Text.put.Goals as goal
-
-pub returns-in-Ok : goal.returns-in-Ok
-returns-in-Ok g c = record { ok = text_behind _ _ _ c.in-Ok.ensures.writes }

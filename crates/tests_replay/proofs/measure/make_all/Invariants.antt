@@ -1,5 +1,0 @@
-use Rattle.ca_replay.specs.Rows.{IsRow}
-use Rattle.tests_replay.proofs.measure.make_all.Given as goal
-
-abbrev pub invariant-loop-event : goal.invariant-loop-event
-invariant-loop-event l = IsRow l.row
