@@ -10,5 +10,3 @@ mod FlushLemmas
 pub mod HeldLemmas
 -- The libraries below, handed on to those above.
 pub use Rattle.ca_law_parts.proofs as of_ca_law_parts
-pub use Rattle.ca_law_parts.proofs.of_ca_law_world
-pub use Rattle.ca_adapter_acts.proofs as of_ca_adapter_acts

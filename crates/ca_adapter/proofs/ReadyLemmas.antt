@@ -38,10 +38,10 @@ use Rattle.ca_law_parts.specs.Placed.{IsConfigured}
 use Rattle.ca_law_parts.specs.Raised.{IsThingWithin}
 use Rattle.ca_law_parts.proofs.Numbers.LimitLemmas.{can-step, own-places, shared-places, slot-incarnation}
 use Rattle.ca_adapter.proofs.HeldLemmas.{destroy-departs, modify-changes}
-use Rattle.ca_adapter_arrivals.proofs.of_ca_law_parts.Parts.EventPartLemmas.{event-held}
-use Rattle.ca_adapter_arrivals.proofs.of_ca_law_parts.Parts.NeedsLemmas.{next-same, none-held}
+use Rattle.ca_law_parts.proofs.Parts.EventPartLemmas.{event-held}
+use Rattle.ca_law_parts.proofs.Parts.NeedsLemmas.{next-same, none-held}
 use Rattle.ca_law_parts.proofs.Room.FitLemmas.{vacant-new}
-use Rattle.ca_law_parts.proofs.of_ca_law_world.Windows.BindingLemmas.{counted-binding}
+use Rattle.ca_adapter_parts.proofs.of_ca_law_world.Windows.BindingLemmas.{counted-binding}
 use Rattle.ca_model.proofs.FrameLemmas.{event-touches-same}
 use Rattle.ca_model.specs.Marks.{MarkList}
 use Rattle.ca_model.specs.declared.answer.Answer.TheVariants as answers

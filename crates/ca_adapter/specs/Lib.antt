@@ -3,4 +3,3 @@ pub mod Ready
 pub use Rattle.ca_law_parts.specs as ca_law_parts
 pub use Rattle.ca_adapter_footprint.specs.ca_requester_sends
 pub use Rattle.ca_adapter_acts.specs as ca_adapter_acts
-pub use Rattle.ca_adapter_pairs.specs as ca_adapter_pairs

@@ -21,7 +21,7 @@ use Rattle.ca_keys.specs.declared.names.Slot.{Slot}
 use Rattle.ca_keys.specs.Numbers.{domain_of}
 use Rattle.ca_model.specs.declared.part_name.PartName.TheVariants as names
 use Rattle.ca_law_parts.proofs.Parts.HeldLemmas.{row-end-held}
-use Rattle.ca_law_parts.proofs.of_ca_law_world.Windows.EndedLemmas.{ended-counted}
+use Rattle.ca_adapter_parts.proofs.of_ca_law_world.Windows.EndedLemmas.{ended-counted}
 use Rattle.ca_model.specs.machine.CanStep.{CanStep}
 use Rattle.ca_model.specs.machine.Delivery.{arrival_row}
 use Rattle.ca_model.specs.machine.Held.{IsEndHeld}

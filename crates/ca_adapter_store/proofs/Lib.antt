@@ -9,5 +9,5 @@ mod ReplayLemmas
 mod LookLemmas
 pub mod RestLemmas
 -- The libraries below, handed on to those above.
-pub use Rattle.ca_law_caused.proofs.of_ca_law_parts
-pub use Rattle.ca_law_caused.proofs.of_ca_law_endings
+pub use Rattle.ca_adapter.proofs.of_ca_law_parts
+pub use Rattle.ca_law_endings.proofs as of_ca_law_endings

@@ -3,8 +3,8 @@ use Rattle.std.proofs.Common.{get_or, ◌≡◌, ◌∙◌, refl, sym, ap, subst
 use Rattle.std.proofs.lemmas.List.{drop_more}
 use Rattle.std.specs.Global.{Vec}
 use Rattle.std.specs.List.{AllByRecursion}
-use Rattle.ca_law_caused.proofs.of_ca_law_endings.EventFitLemmas.{followed-is-history}
-use Rattle.ca_law_caused.specs.ca_law_endings.Runs.{AreStamped}
+use Rattle.ca_law_endings.proofs.EventFitLemmas.{followed-is-history}
+use Rattle.ca_law_endings.specs.Runs.{AreStamped}
 use Rattle.ca_base.specs.Configuration.{Configuration}
 use Rattle.ca_base.specs.declared.step.Reason.{Reason}
 use Rattle.ca_base.specs.declared.step.StepError.{StepError}

@@ -1,6 +1,6 @@
 -- The limits on which the laws of a connection rest, and how far behind a packet can be because of them. Contracts cite it.
 use Rattle.std.specs.Prelude.{ℕ, ◌+◌, ◌-◌, ◌*◌}
-use Rattle.ca_psn.specs.ca_base.declared.limits.TheConstants.{MAX_MESSAGE_PACKETS, MAX_OUTSTANDING_PSNS, KEPT_ENVELOPES}
+use Rattle.ca_base.specs.declared.limits.TheConstants.{MAX_MESSAGE_PACKETS, MAX_OUTSTANDING_PSNS, KEPT_ENVELOPES}
 
 -- how many numbers a requester has outstanding at most
 abbrev pub most_outstanding : ℕ

@@ -2,7 +2,7 @@
 -- responder does. Contracts cite it.
 use Rattle.std.specs.Prelude.{◌≡◌, ℕ, suc, ◌+◌, ◌-◌, ◌%◌, ◌^◌, ◌<◌, ◌≤◌, max, true, nat_lt, if◌then◌else◌, List, [], ◌∷◌, ◌++◌, slice_get, Option, None, Some}
 use Rattle.std.specs.List.{Contains}
-use Rattle.ca_psn.specs.ca_base.declared.limits.TheConstants.{MIN_PATH_MTU}
+use Rattle.ca_base.specs.declared.limits.TheConstants.{MIN_PATH_MTU}
 use Rattle.ca_psn.specs.Psn.{widened}
 use Rattle.ca_connection.specs.Limits.{most_outstanding, greatest_span, kept_requests, kept_responses}
 use Rattle.ca_connection.specs.Layout.{Direction, is_data, is_read, is_atomic, HasNumber, bytes_left, span}

@@ -1,5 +1,5 @@
 ghost use Rattle.std.specs.Prelude.{◌≡◌, ℕ, suc, ◌+◌, ◌%◌, ◌^◌, ◌<◌, ◌≤◌, true};
-ghost use Rattle.ca_psn.specs.ca_base.declared.limits.TheConstants.{MIN_PATH_MTU, MAX_MESSAGE_BYTES, MAX_MESSAGE_PACKETS};
+ghost use Rattle.ca_base.specs.declared.limits.TheConstants.{MIN_PATH_MTU, MAX_MESSAGE_BYTES, MAX_MESSAGE_PACKETS};
 ghost use Rattle.ca_psn.specs.Psn.{widened};
 ghost use Rattle.ca_connection.specs.Acknowledge.{Acknowledges, first_unanswered};
 ghost use Rattle.ca_connection.specs.Layout.{Direction, HasNumber, first, is_read, segments, span, start};

@@ -21,5 +21,3 @@ pub mod ForwardLemmas
 pub mod MailLemmas
 pub mod EventCalm
 pub mod RunCalm
--- The libraries below, handed on to those above.
-pub use Rattle.ca_law_once.proofs as of_ca_law_once

@@ -7,7 +7,7 @@ use Rattle.ca_law_endings.proofs.EventFitLemmas.{first-marks}
 use Rattle.ca_law_endings.proofs.PathEventLemmas.{event-agrees, opening-agrees}
 use Rattle.ca_law_endings.specs.Agreement.{HoldsAlong, PathsAgree}
 use Rattle.ca_law_endings.specs.Runs.{Comes}
-use Rattle.ca_law_carried.specs.ca_law_keys.Posts.{life}
+use Rattle.ca_law_keys.specs.Posts.{life}
 use Rattle.ca_law_carried.proofs.Starts.StartEventLemmas.{starts-along}
 use Rattle.ca_law_carried.specs.Starts.{AgreeOnStart, HasBegun, StartsAgree, StartsInSlot, start_in}
 use Rattle.ca_base.specs.Configuration.{Configuration}

@@ -2,8 +2,8 @@
 use Rattle.std.proofs.Common.{◌≡◌, ℕ, ◌+◌, ◌<◌, ◌≤◌, Bool, true, false, if◌then◌else◌, List, Option, None, Some, refl, ap, sym, subst, ◌∙◌, arith, true≢false}
 use Rattle.std.proofs.lemmas.Option.{same_Some}
 use Rattle.std.specs.Prelude.{is_some}
-use Rattle.ca_law_once.proofs.of_ca_law_endings.LeadsLemmas.{comes, leads-around, leads-queue, leads-unless}
-use Rattle.ca_law_once.specs.ca_law_endings.Runs.{Comes, Leads}
+use Rattle.ca_law_endings.proofs.LeadsLemmas.{comes, leads-around, leads-queue, leads-unless}
+use Rattle.ca_law_endings.specs.Runs.{Comes, Leads}
 use Rattle.ca_base.specs.Configuration.{Configuration}
 use Rattle.ca_base.specs.declared.correspondent.Correspondent.{Correspondent}
 use Rattle.ca_base.specs.declared.lot.Lot.{Lot}

@@ -2,7 +2,7 @@
 -- of NAKs that wait to be sent, and of those that are under way. Laws cite it.
 use Rattle.std.specs.List.{AllByRecursion, list_any}
 use Rattle.std.specs.Prelude.{◌≡◌, true, IsTrue, List, Some, ℕ}
-use Rattle.ca_law_carried.specs.ca_law_keys.Posts.{life}
+use Rattle.ca_law_keys.specs.Posts.{life}
 use Rattle.ca_base.specs.declared.correspondent.Correspondent.{Correspondent}
 use Rattle.ca_base.specs.objects.Mailbox.{Mailbox}
 use Rattle.ca_base.specs.objects.QueuePair.{QueueSlot, NoQueue, Present}

@@ -12,12 +12,12 @@ use Rattle.ca_law_endings.proofs.EventFitLemmas.{first-marks}
 use Rattle.ca_law_endings.proofs.FitLemmas.{fits-timeout, fits-wake, fits-arrive}
 use Rattle.ca_law_world.proofs.Sound.SoundLemmas.{event-sound, opening-sound}
 use Rattle.ca_keys.specs.Memory.{ByteMap}
-use Rattle.ca_law_world.specs.ca_model.Entries.{EntryValue}
-use Rattle.ca_law_world.specs.ca_model.declared.event.Event.TheVariants as events
-use Rattle.ca_law_world.specs.ca_model.machine.Frame.{Afterwards}
-use Rattle.ca_law_world.specs.ca_model.machine.Run.{Follows, Ran, go_on, run_from}
-use Rattle.ca_law_world.specs.ca_model.machine.Step.{plan, step, verb_plan}
-use Rattle.ca_law_world.specs.ca_model.machine.VerbAnswers.{Call, Refuse_plan, answer_mark}
+use Rattle.ca_model.specs.Entries.{EntryValue}
+use Rattle.ca_model.specs.declared.event.Event.TheVariants as events
+use Rattle.ca_model.specs.machine.Frame.{Afterwards}
+use Rattle.ca_model.specs.machine.Run.{Follows, Ran, go_on, run_from}
+use Rattle.ca_model.specs.machine.Step.{plan, step, verb_plan}
+use Rattle.ca_model.specs.machine.VerbAnswers.{Call, Refuse_plan, answer_mark}
 use Rattle.std.specs.List.{AllByRecursion}
 use Rattle.ca_base.specs.Configuration.{Configuration}
 use Rattle.ca_base.specs.declared.correspondent.Correspondent.{Correspondent}
@@ -27,19 +27,19 @@ use Rattle.ca_base.specs.objects.Mailbox.{Mailbox, is_lost, after_delivery, byte
 use Rattle.ca_base.specs.objects.QueuePair.{QueuePair, Present, QueueSlot, NoQueue}
 use Rattle.ca_keys.specs.Equal.{queue_eq}
 use Rattle.ca_keys.specs.declared.names.QueueId.{QueueId}
-use Rattle.ca_law_world.specs.ca_model.Past.{Past, after_mark, after_marks, at_begin, after_entry, each_entry, each_mark, opening_past, Envelope}
-use Rattle.ca_law_world.specs.ca_model.declared.event.Event.{Event}
-use Rattle.ca_law_world.specs.ca_model.declared.mark.Mark.{Mark}
-use Rattle.ca_law_world.specs.ca_model.declared.mark.Mark.TheVariants as marks
-use Rattle.ca_law_world.specs.ca_model.machine.Around.{With_around, updates_of}
-use Rattle.ca_law_world.specs.ca_model.machine.Delivery.{deliver_plan, Arrive}
-use Rattle.ca_law_world.specs.ca_model.machine.Plan.{Did, NotReady, Outcome, Plan, Stuck, Finish, Look, ◌:=◌}
-use Rattle.ca_law_world.specs.ca_model.machine.Requester.{Performs, RequestTurn, Sends, Waits, packet_row, turn_of}
-use Rattle.ca_law_world.specs.ca_model.machine.Respond.{respond_refusals, respond_row}
-use Rattle.ca_law_world.specs.ca_model.machine.Row.{Row, Row_plan}
-use Rattle.ca_law_world.specs.ca_model.machine.Sound.{AreLimited, CanBeMade, IsSoundWorld, IsQueueOf}
-use Rattle.ca_law_world.specs.ca_model.machine.Turns.{Leave_plan, Packet, Request_around, Respond_around, has_room_for, packet_sent, reaches_peer, request_plan, respond_plan, sent_marks, timeout_plan, wake_plan}
-use Rattle.ca_law_world.specs.ca_model.machine.World.{World, opening_world, Mailbox_of, Queue_of}
+use Rattle.ca_model.specs.Past.{Past, after_mark, after_marks, at_begin, after_entry, each_entry, each_mark, opening_past, Envelope}
+use Rattle.ca_model.specs.declared.event.Event.{Event}
+use Rattle.ca_model.specs.declared.mark.Mark.{Mark}
+use Rattle.ca_model.specs.declared.mark.Mark.TheVariants as marks
+use Rattle.ca_model.specs.machine.Around.{With_around, updates_of}
+use Rattle.ca_model.specs.machine.Delivery.{deliver_plan, Arrive}
+use Rattle.ca_model.specs.machine.Plan.{Did, NotReady, Outcome, Plan, Stuck, Finish, Look, ◌:=◌}
+use Rattle.ca_model.specs.machine.Requester.{Performs, RequestTurn, Sends, Waits, packet_row, turn_of}
+use Rattle.ca_model.specs.machine.Respond.{respond_refusals, respond_row}
+use Rattle.ca_model.specs.machine.Row.{Row, Row_plan}
+use Rattle.ca_model.specs.machine.Sound.{AreLimited, CanBeMade, IsSoundWorld, IsQueueOf}
+use Rattle.ca_model.specs.machine.Turns.{Leave_plan, Packet, Request_around, Respond_around, has_room_for, packet_sent, reaches_peer, request_plan, respond_plan, sent_marks, timeout_plan, wake_plan}
+use Rattle.ca_model.specs.machine.World.{World, opening_world, Mailbox_of, Queue_of}
 use Rattle.ca_law_world.proofs.Sound.SettledLemmas.{queue-refl}
 use Rattle.ca_law_world.proofs.Sound.WorldLemmas.{RowDoes, around_in, shared_of}
 use Rattle.ca_law_endings.proofs.MailSentLemmas.{lent-sent}
@@ -48,12 +48,12 @@ use Rattle.ca_law_endings.proofs.PathVerbLemmas.{call_of}
 use Rattle.ca_law_endings.proofs.VerbFitLemmas.{AreOwnAnswered, IsNoInjection, OwnAnswers, own-verb}
 use Rattle.ca_law_endings.specs.Arrivals.{DoArriveAsSent, arrives_as_sent}
 use Rattle.ca_base.specs.declared.limits.TheConstants.{KEPT_ENVELOPES}
-use Rattle.ca_law_world.specs.ca_model.Carried.{has_arrived, is_under_way}
-use Rattle.ca_law_world.specs.ca_model.declared.answer.Answer.TheVariants as answers
-use Rattle.ca_law_world.specs.ca_model.declared.answer.Refusal.TheVariants.{NoSuch}
-use Rattle.ca_law_world.specs.ca_model.declared.verb.Verb.{Verb}
-use Rattle.ca_law_world.specs.ca_model.declared.verb.Verb.TheVariants as verbs
-use Rattle.ca_law_world.specs.ca_model.machine.HostVerbs.{inject_plan}
+use Rattle.ca_model.specs.Carried.{has_arrived, is_under_way}
+use Rattle.ca_model.specs.declared.answer.Answer.TheVariants as answers
+use Rattle.ca_model.specs.declared.answer.Refusal.TheVariants.{NoSuch}
+use Rattle.ca_model.specs.declared.verb.Verb.{Verb}
+use Rattle.ca_model.specs.declared.verb.Verb.TheVariants as verbs
+use Rattle.ca_model.specs.machine.HostVerbs.{inject_plan}
 
 -- what an event that ends so leaves of the test, whatever the world
 abbrev Right : Past → Event → World → List Mark → Type 0

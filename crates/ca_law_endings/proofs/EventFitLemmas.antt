@@ -7,19 +7,19 @@ use Rattle.ca_law_endings.proofs.LeadsLemmas.{comes, leads-weaker}
 use Rattle.ca_law_endings.proofs.VerbFitLemmas.{Answers, AreAnswered, fits-verb}
 use Rattle.ca_base.specs.Configuration.{Configuration}
 use Rattle.ca_keys.specs.Memory.{ByteMap}
-use Rattle.ca_law_world.specs.ca_model.Entries.{EntryValue}
-use Rattle.ca_law_world.specs.ca_model.History.{FitTheEvent, IsHistory, IsHistoryFrom}
-use Rattle.ca_law_world.specs.ca_model.declared.event.Event.{Event}
-use Rattle.ca_law_world.specs.ca_model.declared.event.Event.TheVariants as events
-use Rattle.ca_law_world.specs.ca_model.declared.mark.Mark.{Mark}
-use Rattle.ca_law_world.specs.ca_model.declared.verb.Verb.{Verb}
-use Rattle.ca_law_world.specs.ca_model.machine.Delivery.{deliver_plan}
-use Rattle.ca_law_world.specs.ca_model.machine.Turns.{timeout_plan, wake_plan}
-use Rattle.ca_law_world.specs.ca_model.machine.VerbAnswers.{Call}
-use Rattle.ca_law_world.specs.ca_model.machine.Plan.{Did, NotReady, Outcome}
-use Rattle.ca_law_world.specs.ca_model.machine.Run.{Follows, Ran, go_on, run_from, with_marks}
-use Rattle.ca_law_world.specs.ca_model.machine.Step.{plan, step}
-use Rattle.ca_law_world.specs.ca_model.machine.World.{World, opening_world}
+use Rattle.ca_model.specs.Entries.{EntryValue}
+use Rattle.ca_model.specs.History.{FitTheEvent, IsHistory, IsHistoryFrom}
+use Rattle.ca_model.specs.declared.event.Event.{Event}
+use Rattle.ca_model.specs.declared.event.Event.TheVariants as events
+use Rattle.ca_model.specs.declared.mark.Mark.{Mark}
+use Rattle.ca_model.specs.declared.verb.Verb.{Verb}
+use Rattle.ca_model.specs.machine.Delivery.{deliver_plan}
+use Rattle.ca_model.specs.machine.Turns.{timeout_plan, wake_plan}
+use Rattle.ca_model.specs.machine.VerbAnswers.{Call}
+use Rattle.ca_model.specs.machine.Plan.{Did, NotReady, Outcome}
+use Rattle.ca_model.specs.machine.Run.{Follows, Ran, go_on, run_from, with_marks}
+use Rattle.ca_model.specs.machine.Step.{plan, step}
+use Rattle.ca_model.specs.machine.World.{World, opening_world}
 
 answered-fits : (call : Call) (ms : List Mark) → AreAnswered call ms → FitTheEvent (events.Verb call.by call.verb) ms
 answered-fits call [] answered = absurd answered

@@ -14,18 +14,18 @@ use Rattle.ca_base.specs.declared.step.Sent.TheVariants.{Silent, Spelt}
 use Rattle.ca_base.specs.objects.Mailbox.{Mailbox, after_delivery, bytes_lent, is_lost}
 use Rattle.ca_base.specs.objects.QueuePair.{QueuePair, QueueSlot, NoQueue, Present}
 use Rattle.ca_keys.specs.declared.names.QueueId.{QueueId}
-use Rattle.ca_law_world.specs.ca_model.History.{ArePlain, IsPlain}
-use Rattle.ca_law_world.specs.ca_model.declared.mark.Mark.{Mark}
-use Rattle.ca_law_world.specs.ca_model.declared.mark.Mark.TheVariants as marks
-use Rattle.ca_law_world.specs.ca_model.machine.Around.{Around, With_around, shared_in, updates_of}
-use Rattle.ca_law_world.specs.ca_model.machine.Delivery.{Arrive, arrival_row, deliver_plan}
-use Rattle.ca_law_world.specs.ca_model.machine.Plan.{Plan, Stuck, Look, Finish, Update, ◌:=◌, Write, unless_refused}
-use Rattle.ca_law_world.specs.ca_model.machine.Requester.{Performs, RequestTurn, Sends, Waits, packet_row, turn_of}
-use Rattle.ca_law_world.specs.ca_model.machine.Respond.{respond_refusals, respond_row}
-use Rattle.ca_law_world.specs.ca_model.machine.Row.{Effects, Row, Row_plan}
-use Rattle.ca_law_world.specs.ca_model.machine.Timers.{after_timeout, after_wake, timeout_refusals, wake_refusals}
-use Rattle.ca_law_world.specs.ca_model.machine.Turns.{Fire, Leave_plan, Packet, Request_around, Respond_around, Timeout_around, With_receives, has_room_for, packet_sent, reaches_peer, request_plan, respond_plan, sent_marks, timeout_plan, wake_plan}
-use Rattle.ca_law_world.specs.ca_model.machine.World.{Mailbox_of, Queue_of, World}
+use Rattle.ca_model.specs.History.{ArePlain, IsPlain}
+use Rattle.ca_model.specs.declared.mark.Mark.{Mark}
+use Rattle.ca_model.specs.declared.mark.Mark.TheVariants as marks
+use Rattle.ca_model.specs.machine.Around.{Around, With_around, shared_in, updates_of}
+use Rattle.ca_model.specs.machine.Delivery.{Arrive, arrival_row, deliver_plan}
+use Rattle.ca_model.specs.machine.Plan.{Plan, Stuck, Look, Finish, Update, ◌:=◌, Write, unless_refused}
+use Rattle.ca_model.specs.machine.Requester.{Performs, RequestTurn, Sends, Waits, packet_row, turn_of}
+use Rattle.ca_model.specs.machine.Respond.{respond_refusals, respond_row}
+use Rattle.ca_model.specs.machine.Row.{Effects, Row, Row_plan}
+use Rattle.ca_model.specs.machine.Timers.{after_timeout, after_wake, timeout_refusals, wake_refusals}
+use Rattle.ca_model.specs.machine.Turns.{Fire, Leave_plan, Packet, Request_around, Respond_around, Timeout_around, With_receives, has_room_for, packet_sent, reaches_peer, request_plan, respond_plan, sent_marks, timeout_plan, wake_plan}
+use Rattle.ca_model.specs.machine.World.{Mailbox_of, Queue_of, World}
 use Rattle.ca_law_world.proofs.Sound.WorldLemmas.{RowDoes, around_in, shared_of}
 
 -- what holds of a turn's marks, whatever the world

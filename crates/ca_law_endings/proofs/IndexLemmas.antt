@@ -4,7 +4,7 @@ use Rattle.std.specs.Option.{option_eq, option_map_or}
 use Rattle.ca_law_endings.specs.Agreement.{PathsAgree, peer_in, peer_named}
 use Rattle.ca_law_endings.specs.Runs.{Comes, Leads}
 use Rattle.ca_law_endings.specs.Indices.{HaveTheirIndices, has_its_index}
-use Rattle.ca_law_world.specs.ca_model.Carried.{has_path, index_to}
+use Rattle.ca_model.specs.Carried.{has_path, index_to}
 use Rattle.std.proofs.lemmas.Bool.Decides.{nat_tests}
 use Rattle.ca_law_endings.proofs.InnerLemmas.{own-inner, AreInner, IsInner, IsInnerMark, packet-inner, respond-inner}
 use Rattle.ca_law_endings.proofs.LeadsLemmas.{comes, leads-weaker, leads-around, leads-queue, leads-row, leads-unless}
@@ -17,12 +17,12 @@ use Rattle.ca_law_endings.proofs.FitLemmas.{Own_turns, Silent_turns, fits-delive
 use Rattle.ca_law_endings.proofs.VerbFitLemmas.{Answers, AreAnswered}
 use Rattle.ca_law_world.proofs.Sound.SoundLemmas.{event-sound, opening-sound}
 use Rattle.ca_keys.specs.Memory.{ByteMap}
-use Rattle.ca_law_world.specs.ca_model.Entries.{EntryValue}
-use Rattle.ca_law_world.specs.ca_model.declared.event.Event.TheVariants as events
-use Rattle.ca_law_world.specs.ca_model.machine.Frame.{Afterwards}
-use Rattle.ca_law_world.specs.ca_model.machine.Run.{Follows, Ran, go_on, run_from}
-use Rattle.ca_law_world.specs.ca_model.machine.Step.{plan, step}
-use Rattle.ca_law_world.specs.ca_model.machine.VerbAnswers.{Call}
+use Rattle.ca_model.specs.Entries.{EntryValue}
+use Rattle.ca_model.specs.declared.event.Event.TheVariants as events
+use Rattle.ca_model.specs.machine.Frame.{Afterwards}
+use Rattle.ca_model.specs.machine.Run.{Follows, Ran, go_on, run_from}
+use Rattle.ca_model.specs.machine.Step.{plan, step}
+use Rattle.ca_model.specs.machine.VerbAnswers.{Call}
 use Rattle.std.specs.List.{AllByRecursion}
 use Rattle.ca_base.specs.Configuration.{Configuration}
 use Rattle.ca_base.specs.declared.correspondent.Correspondent.{Correspondent}
@@ -34,19 +34,19 @@ use Rattle.ca_base.specs.objects.Mailbox.{Mailbox, is_lost}
 use Rattle.ca_base.specs.objects.QueuePair.{QueuePair, Present, incarnation_of}
 use Rattle.ca_keys.specs.Equal.{queue_eq}
 use Rattle.ca_keys.specs.declared.names.QueueId.{QueueId}
-use Rattle.ca_law_world.specs.ca_model.Past.{Naming, Past, after_mark, after_marks, at_begin, after_entry, correspondent_eq, each_entry, each_mark, opening_past, present_incarnation}
-use Rattle.ca_law_world.specs.ca_model.declared.event.Event.{Event}
-use Rattle.ca_law_world.specs.ca_model.declared.mark.Mark.{Mark}
-use Rattle.ca_law_world.specs.ca_model.declared.mark.Mark.TheVariants as marks
-use Rattle.ca_law_world.specs.ca_model.machine.Around.{With_around, updates_of}
-use Rattle.ca_law_world.specs.ca_model.machine.Delivery.{deliver_plan}
-use Rattle.ca_law_world.specs.ca_model.machine.Plan.{Did, NotReady, Outcome, Plan, Stuck, Finish}
-use Rattle.ca_law_world.specs.ca_model.machine.Requester.{Performs, RequestTurn, Sends, Waits, packet_row, turn_of}
-use Rattle.ca_law_world.specs.ca_model.machine.Respond.{respond_refusals, respond_row}
-use Rattle.ca_law_world.specs.ca_model.machine.Row.{Effects, Row, Row_plan}
-use Rattle.ca_law_world.specs.ca_model.machine.Sound.{AreLimited, CanBeMade, IsSoundWorld}
-use Rattle.ca_law_world.specs.ca_model.machine.Turns.{Leave_plan, Packet, Request_around, Respond_around, has_room_for, packet_sent, reaches_peer, request_plan, respond_plan, sent_marks, timeout_plan, wake_plan}
-use Rattle.ca_law_world.specs.ca_model.machine.World.{World, opening_world}
+use Rattle.ca_model.specs.Past.{Naming, Past, after_mark, after_marks, at_begin, after_entry, correspondent_eq, each_entry, each_mark, opening_past, present_incarnation}
+use Rattle.ca_model.specs.declared.event.Event.{Event}
+use Rattle.ca_model.specs.declared.mark.Mark.{Mark}
+use Rattle.ca_model.specs.declared.mark.Mark.TheVariants as marks
+use Rattle.ca_model.specs.machine.Around.{With_around, updates_of}
+use Rattle.ca_model.specs.machine.Delivery.{deliver_plan}
+use Rattle.ca_model.specs.machine.Plan.{Did, NotReady, Outcome, Plan, Stuck, Finish}
+use Rattle.ca_model.specs.machine.Requester.{Performs, RequestTurn, Sends, Waits, packet_row, turn_of}
+use Rattle.ca_model.specs.machine.Respond.{respond_refusals, respond_row}
+use Rattle.ca_model.specs.machine.Row.{Effects, Row, Row_plan}
+use Rattle.ca_model.specs.machine.Sound.{AreLimited, CanBeMade, IsSoundWorld}
+use Rattle.ca_model.specs.machine.Turns.{Leave_plan, Packet, Request_around, Respond_around, has_room_for, packet_sent, reaches_peer, request_plan, respond_plan, sent_marks, timeout_plan, wake_plan}
+use Rattle.ca_model.specs.machine.World.{World, opening_world}
 use Rattle.ca_law_world.proofs.Sound.SettledLemmas.{queue-refl}
 use Rattle.ca_law_world.proofs.Sound.WorldLemmas.{RowDoes, around_in, shared_of}
 

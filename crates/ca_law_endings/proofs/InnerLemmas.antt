@@ -18,13 +18,13 @@ use Rattle.ca_wire.specs.Packet.{Fields}
 use Rattle.ca_wire.specs.declared.syndrome.Syndrome.{Syndrome}
 use Rattle.ca_wire.specs.declared.syndrome.Syndrome.TheVariants.{Ack, Nak, RnrNak}
 use Rattle.ca_wire.specs.Syndrome.{syndrome_in, nak_code}
-use Rattle.ca_law_world.specs.ca_model.declared.mark.Drop1.{Drop1}
-use Rattle.ca_law_world.specs.ca_model.declared.mark.Drop1.TheVariants as drops
-use Rattle.ca_law_world.specs.ca_model.machine.Acknowledgements.{Acknowledgement, acknowledgement_below, and_then, failure_effects, first_unanswered, one_retry, progress_to, with_cursor, with_requester, with_una}
-use Rattle.ca_law_world.specs.ca_model.machine.Numbering.{Numbered, begun_requests, request_at}
-use Rattle.ca_law_world.specs.ca_model.machine.Requester.{local_denial, denied_list_effects, is_outstanding, is_too_much, packet_asks, packet_row, sent_packet}
-use Rattle.ca_law_world.specs.ca_model.machine.Responses.{acknowledge_row, answer_asks, answer_bytes, answer_row, drop_effects, fits_request, fitting_row, is_outstanding_at, local_writes, nak_effects, outstanding_row, response_psn, response_row, rnr_nak_effects, unless_back, writes_by}
-use Rattle.ca_law_world.specs.ca_model.machine.Row.{NotPossible, Does, Effects, Row, plain_row, queue_and_marks, Ending}
+use Rattle.ca_model.specs.declared.mark.Drop1.{Drop1}
+use Rattle.ca_model.specs.declared.mark.Drop1.TheVariants as drops
+use Rattle.ca_model.specs.machine.Acknowledgements.{Acknowledgement, acknowledgement_below, and_then, failure_effects, first_unanswered, one_retry, progress_to, with_cursor, with_requester, with_una}
+use Rattle.ca_model.specs.machine.Numbering.{Numbered, begun_requests, request_at}
+use Rattle.ca_model.specs.machine.Requester.{local_denial, denied_list_effects, is_outstanding, is_too_much, packet_asks, packet_row, sent_packet}
+use Rattle.ca_model.specs.machine.Responses.{acknowledge_row, answer_asks, answer_bytes, answer_row, drop_effects, fits_request, fitting_row, is_outstanding_at, local_writes, nak_effects, outstanding_row, response_psn, response_row, rnr_nak_effects, unless_back, writes_by}
+use Rattle.ca_model.specs.machine.Row.{NotPossible, Does, Effects, Row, plain_row, queue_and_marks, Ending}
 use Rattle.ca_keys.specs.declared.access.Kind.{Kind}
 use Rattle.ca_keys.specs.declared.key.Key.{Key}
 use Rattle.ca_base.specs.declared.queue_numbers.Queued.{Queued}
@@ -32,17 +32,17 @@ use Rattle.ca_base.specs.declared.queue_numbers.Queued.TheVariants as queued
 use Rattle.ca_base.specs.objects.Saved.{saved_at}
 use Rattle.ca_base.specs.declared.request.PlacedReceive.{PlacedReceive}
 use Rattle.ca_base.specs.objects.SharedReceives.{SharedReceives}
-use Rattle.ca_law_world.specs.ca_psn.Psn.{widened}
+use Rattle.ca_psn.specs.Psn.{widened}
 use Rattle.ca_wire.specs.declared.atomic_eth.AtomicEth.{AtomicEth}
 use Rattle.ca_wire.specs.declared.reth.Reth.{Reth}
 use Rattle.ca_wire.specs.declared.shape.Position.{Position}
-use Rattle.ca_law_world.specs.ca_model.Packets.{is_response}
-use Rattle.ca_law_world.specs.ca_model.Requests.{list_length, segments}
-use Rattle.ca_law_world.specs.ca_model.machine.Arrivals.{next_receive, refusal_effects, with_answer, with_flag, with_receive_taken, with_message}
-use Rattle.ca_law_world.specs.ca_model.machine.Duplicates.{ack_again, ahead_effects, answer_again, atomic_again, duplicate_effects, read_again, request_row}
-use Rattle.ca_law_world.specs.ca_model.declared.receiving.Receiving.{Receiving}
-use Rattle.ca_law_world.specs.ca_model.declared.write_reach.WriteReach.{WriteReach}
-use Rattle.ca_law_world.specs.ca_model.machine.Expected.{after_send_packet, atomic_row, behind_marks, expected_row, invalidation_of, is_invalid, read_queued, receive_asks, receive_failure_effects, receiving_of, revoked_marks, rnr_effects, send_row, takes_receive, valid_row, with_shared_receive, with_window_gone, write_reach, write_row, message_left, queue_after_packet}
+use Rattle.ca_model.specs.Packets.{is_response}
+use Rattle.ca_model.specs.Requests.{list_length, segments}
+use Rattle.ca_model.specs.machine.Arrivals.{next_receive, refusal_effects, with_answer, with_flag, with_receive_taken, with_message}
+use Rattle.ca_model.specs.machine.Duplicates.{ack_again, ahead_effects, answer_again, atomic_again, duplicate_effects, read_again, request_row}
+use Rattle.ca_model.specs.declared.receiving.Receiving.{Receiving}
+use Rattle.ca_model.specs.declared.write_reach.WriteReach.{WriteReach}
+use Rattle.ca_model.specs.machine.Expected.{after_send_packet, atomic_row, behind_marks, expected_row, invalidation_of, is_invalid, read_queued, receive_asks, receive_failure_effects, receiving_of, revoked_marks, rnr_effects, send_row, takes_receive, valid_row, with_shared_receive, with_window_gone, write_reach, write_row, message_left, queue_after_packet}
 use Rattle.ca_wire.specs.declared.shape.Shape.{Shape}
 use Rattle.ca_wire.specs.declared.shape.Shape.TheVariants as shapes
 use Rattle.ca_wire.specs.Table.{shape_of}
@@ -51,17 +51,17 @@ use Rattle.ca_base.specs.declared.step.Reason.TheVariants as reasons
 use Rattle.ca_keys.specs.Refusals.{first_of}
 use Rattle.ca_wire.specs.declared.wire_error.WireError.{WireError}
 use Rattle.ca_wire.specs.Decoding.{packet_in}
-use Rattle.ca_law_world.specs.ca_model.machine.Delivery.{arrival_drops, arrival_row, packet_arrived}
-use Rattle.ca_law_world.specs.ca_model.declared.read_left.ReadLeft.{ReadLeft}
-use Rattle.ca_law_world.specs.ca_model.machine.Respond.{answer_turn, respond_refusals, respond_row, is_last_response, rest_of, with_front, without_front}
-use Rattle.ca_law_world.specs.ca_model.machine.LocalOperations.{invalidate_row, operation_effects}
+use Rattle.ca_model.specs.machine.Delivery.{arrival_drops, arrival_row, packet_arrived}
+use Rattle.ca_model.specs.declared.read_left.ReadLeft.{ReadLeft}
+use Rattle.ca_model.specs.machine.Respond.{answer_turn, respond_refusals, respond_row, is_last_response, rest_of, with_front, without_front}
+use Rattle.ca_model.specs.machine.LocalOperations.{invalidate_row, operation_effects}
 use Rattle.ca_base.specs.declared.completion.WcOp.TheVariants as operations
 use Rattle.ca_base.specs.declared.queue_numbers.Message.{Message}
 use Rattle.ca_base.specs.declared.queue_numbers.Message.TheVariants as messages
 use Rattle.ca_wire.specs.Shapes.{ends}
-use Rattle.ca_law_world.specs.ca_model.machine.Completions.{receive_mark}
-use Rattle.ca_law_world.specs.ca_model.machine.Expected.{with_window_gone}
-use Rattle.ca_law_world.specs.ca_model.machine.LocalOperations.{invalidate_row}
+use Rattle.ca_model.specs.machine.Completions.{receive_mark}
+use Rattle.ca_model.specs.machine.Expected.{with_window_gone}
+use Rattle.ca_model.specs.machine.LocalOperations.{invalidate_row}
 use Rattle.std.specs.List.{flat_map}
 use Rattle.ca_base.specs.declared.completion.WcStatus.{WcStatus}
 use Rattle.ca_base.specs.declared.request.PostedSend.{PostedSend}
@@ -72,13 +72,13 @@ use Rattle.ca_base.specs.objects.WorkQueue.{WorkQueue, items_from}
 use Rattle.ca_keys.specs.declared.access.Ask.{Ask}
 use Rattle.ca_keys.specs.declared.grant.Grant.{Grant}
 use Rattle.ca_keys.specs.declared.names.QueueId.{QueueId}
-use Rattle.ca_law_world.specs.ca_model.declared.mark.Mark.{Mark}
-use Rattle.ca_law_world.specs.ca_model.declared.mark.Mark.TheVariants as marks
-use Rattle.ca_law_world.specs.ca_model.machine.Acknowledgements.{finished_requests, without_oldest}
-use Rattle.ca_law_world.specs.ca_model.machine.Completions.{failure_mark, flush_marks, flushed_message, flushed_receives, flushed_sends, success_marks}
-use Rattle.ca_law_world.specs.ca_model.machine.LocalOperations.{local_marks}
-use Rattle.ca_law_world.specs.ca_model.machine.Requester.{local_reads}
-use Rattle.ca_law_world.specs.ca_model.machine.Timers.{after_timeout}
+use Rattle.ca_model.specs.declared.mark.Mark.{Mark}
+use Rattle.ca_model.specs.declared.mark.Mark.TheVariants as marks
+use Rattle.ca_model.specs.machine.Acknowledgements.{finished_requests, without_oldest}
+use Rattle.ca_model.specs.machine.Completions.{failure_mark, flush_marks, flushed_message, flushed_receives, flushed_sends, success_marks}
+use Rattle.ca_model.specs.machine.LocalOperations.{local_marks}
+use Rattle.ca_model.specs.machine.Requester.{local_reads}
+use Rattle.ca_model.specs.machine.Timers.{after_timeout}
 use Rattle.ca_law_world.proofs.Sound.WorldLemmas.{EndingDoes, RowDoes}
 
 -- a mark of an event: no answer, no packet that is sent or lost, and a completion of the queue pair that it names

@@ -18,11 +18,11 @@ use Rattle.ca_keys.specs.declared.access.Ask.{Ask}
 use Rattle.ca_keys.specs.declared.grant.Grant.{Grant}
 use Rattle.ca_keys.specs.declared.names.QueueId.{QueueId}
 use Rattle.ca_keys.specs.declared.names.Slot.{Slot}
-use Rattle.ca_law_world.specs.ca_model.declared.mark.Mark.{Mark}
-use Rattle.ca_law_world.specs.ca_model.machine.Around.{Around, With_around, With_queue}
-use Rattle.ca_law_world.specs.ca_model.machine.Plan.{Plan, Stuck, Look, Read, If, Finish, Update, ◌:=◌, Write, perform, unless_refused}
-use Rattle.ca_law_world.specs.ca_model.machine.Row.{Ending, NotPossible, Does, Effects, Row, Row_plan, End_plan, With_grant, With_grants, With_bytes, With_writes, With_invalidation, first_denied_by, region_under, unless_none}
-use Rattle.ca_law_world.specs.ca_model.machine.World.{World, Name, Region_of, Srq_of, Window_of, get}
+use Rattle.ca_model.specs.declared.mark.Mark.{Mark}
+use Rattle.ca_model.specs.machine.Around.{Around, With_around, With_queue}
+use Rattle.ca_model.specs.machine.Plan.{Plan, Stuck, Look, Read, If, Finish, Update, ◌:=◌, Write, perform, unless_refused}
+use Rattle.ca_model.specs.machine.Row.{Ending, NotPossible, Does, Effects, Row, Row_plan, End_plan, With_grant, With_grants, With_bytes, With_writes, With_invalidation, first_denied_by, region_under, unless_none}
+use Rattle.ca_model.specs.machine.World.{World, Name, Region_of, Srq_of, Window_of, get}
 use Rattle.ca_law_world.proofs.Sound.WorldLemmas.{EndingDoes, RowDoes, around_in, shared_of}
 
 -- what a plan that leads somewhere comes to

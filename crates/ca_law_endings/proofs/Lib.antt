@@ -20,5 +20,3 @@ pub mod Rows
 pub mod Endings
 pub mod Walk
 pub mod Footprint
--- The libraries below, handed on to those above.
-pub use Rattle.ca_law_world.proofs as of_ca_law_world

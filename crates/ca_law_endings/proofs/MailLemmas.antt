@@ -11,9 +11,9 @@ use Rattle.ca_base.specs.objects.Mailbox.{Mailbox, after_send, with_delivery, wi
 use Rattle.ca_keys.specs.Equal.{queue_eq}
 use Rattle.ca_keys.specs.declared.names.QueueId.{QueueId}
 use Rattle.ca_law_world.proofs.Sound.SettledLemmas.{queue-path}
-use Rattle.ca_law_world.specs.ca_model.Past.{Envelope, Past, with_cut, with_lost, with_queue_emptied}
-use Rattle.ca_law_world.specs.ca_model.machine.QueuePairVerbs.{emptied_mailbox}
-use Rattle.ca_law_world.specs.ca_model.machine.World.{World}
+use Rattle.ca_model.specs.Past.{Envelope, Past, with_cut, with_lost, with_queue_emptied}
+use Rattle.ca_model.specs.machine.QueuePairVerbs.{emptied_mailbox}
+use Rattle.ca_model.specs.machine.World.{World}
 
 -- an envelope that was delivered once more is the same for the past
 pub delivered-latest : (later : ℕ) (ms : List MailEnvelope) (es : List Envelope) → AreLatest ms es → AreLatest (with_delivery later ms) es

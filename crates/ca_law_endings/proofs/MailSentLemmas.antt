@@ -10,9 +10,9 @@ use Rattle.ca_base.specs.declared.limits.TheConstants.{KEPT_ENVELOPES}
 use Rattle.ca_base.specs.declared.mail_envelope.MailEnvelope.{MailEnvelope}
 use Rattle.ca_base.specs.objects.Mailbox.{Mailbox, bytes_lent, is_lost, later_than}
 use Rattle.ca_keys.specs.declared.names.QueueId.{QueueId}
-use Rattle.ca_law_world.specs.ca_model.Past.{Envelope, Past}
-use Rattle.ca_law_world.specs.ca_model.machine.Sound.{IsSoundWorld}
-use Rattle.ca_law_world.specs.ca_model.machine.World.{Mailbox_of, World}
+use Rattle.ca_model.specs.Past.{Envelope, Past}
+use Rattle.ca_model.specs.machine.Sound.{IsSoundWorld}
+use Rattle.ca_model.specs.machine.World.{Mailbox_of, World}
 
 -- the bytes of an envelope that was not lost
 abbrev lends : MailEnvelope → Option (List ℕ)

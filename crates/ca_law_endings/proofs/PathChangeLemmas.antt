@@ -20,21 +20,21 @@ use Rattle.ca_keys.specs.Equal.{queue_eq}
 use Rattle.ca_keys.specs.Numbers.{queue_of}
 use Rattle.ca_keys.specs.declared.names.QueueId.{QueueId}
 use Rattle.ca_keys.specs.declared.names.Slot.{Slot}
-use Rattle.ca_law_world.specs.ca_model.Past.{Naming, Past, after_mark, after_marks, at_begin, with_at, with_cut, with_queue_emptied}
-use Rattle.ca_law_world.specs.ca_model.declared.answer.Answer.{Answer}
-use Rattle.ca_law_world.specs.ca_model.declared.answer.Answer.TheVariants as answers
-use Rattle.ca_law_world.specs.ca_model.declared.answer.Refusal.{Refusal}
-use Rattle.ca_law_world.specs.ca_model.declared.event.Event.TheVariants as events
-use Rattle.ca_law_world.specs.ca_model.declared.mark.Mark.{Mark}
-use Rattle.ca_law_world.specs.ca_model.declared.verb.Verb.{Verb}
-use Rattle.ca_law_world.specs.ca_model.declared.verb.Verb.TheVariants as verbs
-use Rattle.ca_law_world.specs.ca_model.machine.Around.{Around, With_around, cq_updates, srq_updates}
-use Rattle.ca_law_world.specs.ca_model.machine.Completions.{flush_marks}
-use Rattle.ca_law_world.specs.ca_model.machine.Plan.{Update, ◌:=◌, put_all}
-use Rattle.ca_law_world.specs.ca_model.machine.QueuePairVerbs.{emptied_mailbox, emptied_updates, modify_qp_plan, places_held}
-use Rattle.ca_law_world.specs.ca_model.machine.Sound.{IsSoundWorld}
-use Rattle.ca_law_world.specs.ca_model.machine.VerbAnswers.{Answer_plan, Call, Refuse_plan, Unless_plan, answer_mark, of_change_refusals}
-use Rattle.ca_law_world.specs.ca_model.machine.World.{Mailbox_of, Queue_of, Srq_of, World}
+use Rattle.ca_model.specs.Past.{Naming, Past, after_mark, after_marks, at_begin, with_at, with_cut, with_queue_emptied}
+use Rattle.ca_model.specs.declared.answer.Answer.{Answer}
+use Rattle.ca_model.specs.declared.answer.Answer.TheVariants as answers
+use Rattle.ca_model.specs.declared.answer.Refusal.{Refusal}
+use Rattle.ca_model.specs.declared.event.Event.TheVariants as events
+use Rattle.ca_model.specs.declared.mark.Mark.{Mark}
+use Rattle.ca_model.specs.declared.verb.Verb.{Verb}
+use Rattle.ca_model.specs.declared.verb.Verb.TheVariants as verbs
+use Rattle.ca_model.specs.machine.Around.{Around, With_around, cq_updates, srq_updates}
+use Rattle.ca_model.specs.machine.Completions.{flush_marks}
+use Rattle.ca_model.specs.machine.Plan.{Update, ◌:=◌, put_all}
+use Rattle.ca_model.specs.machine.QueuePairVerbs.{emptied_mailbox, emptied_updates, modify_qp_plan, places_held}
+use Rattle.ca_model.specs.machine.Sound.{IsSoundWorld}
+use Rattle.ca_model.specs.machine.VerbAnswers.{Answer_plan, Call, Refuse_plan, Unless_plan, answer_mark, of_change_refusals}
+use Rattle.ca_model.specs.machine.World.{Mailbox_of, Queue_of, Srq_of, World}
 use Rattle.ca_law_world.proofs.Sound.WorldLemmas.{around_in, shared_of}
 use Rattle.ca_law_world.proofs.Sound.SettledLemmas.{queue-path, queue-refl}
 

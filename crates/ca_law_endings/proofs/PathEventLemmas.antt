@@ -25,30 +25,30 @@ use Rattle.ca_keys.specs.Memory.{ByteMap}
 use Rattle.ca_keys.specs.Numbers.{queue_of}
 use Rattle.ca_keys.specs.declared.names.QueueId.{QueueId}
 use Rattle.ca_keys.specs.declared.names.Slot.{Slot}
-use Rattle.ca_law_world.specs.ca_model.Past.{with_at, Past, after_marks, after_entry, at_begin, opening_past}
-use Rattle.ca_law_world.specs.ca_model.declared.answer.Answer.TheVariants as answers
-use Rattle.ca_law_world.specs.ca_model.declared.answer.Refusal.TheVariants.{NoSuch, OutOfRange, NoDomain, SlotTaken, CqTooSmall, WindowsBound}
-use Rattle.ca_law_world.specs.ca_model.declared.event.Event.{Event}
-use Rattle.ca_law_world.specs.ca_model.declared.event.Event.TheVariants as events
-use Rattle.ca_law_world.specs.ca_model.declared.mark.Mark.{Mark}
-use Rattle.ca_law_world.specs.ca_model.declared.verb.Verb.{Verb}
-use Rattle.ca_law_world.specs.ca_model.declared.verb.Verb.TheVariants as verbs
-use Rattle.ca_law_world.specs.ca_model.machine.Around.{Around}
-use Rattle.ca_law_world.specs.ca_model.machine.CompletionVerbs.{Poll_of, Take_plan, With_place, With_places, after_poll, poll_plan, receives_after_poll, slot_after_poll, source_of_completion}
-use Rattle.ca_law_world.specs.ca_model.machine.Delivery.{Arrive}
-use Rattle.ca_law_world.specs.ca_model.machine.HostVerbs.{inject_plan}
-use Rattle.ca_law_world.specs.ca_model.machine.Plan.{Did, NotReady, Outcome, Plan, If, Look, Stuck, Update, ◌:=◌, put_all}
-use Rattle.ca_law_world.specs.ca_model.machine.QueuePairVerbs.{Creation, With_shared, before_receives, beside, create_qp_plan, destroy_qp_plan, emptied_mailbox, has_bad_depth, has_no_room, has_queues, left_updates, new_queue, places_held, receive_reserve, receive_room, send_reserved, user_updates, without_queue}
-use Rattle.ca_law_world.specs.ca_model.machine.Sound.{AreLimited, CanBeMade, IsSoundWorld}
-use Rattle.ca_law_world.specs.ca_model.machine.Frame.{Afterwards}
-use Rattle.ca_law_world.specs.ca_model.machine.Run.{Follows, Ran, go_on, run_from}
-use Rattle.ca_law_world.specs.ca_model.Entries.{EntryValue}
+use Rattle.ca_model.specs.Past.{with_at, Past, after_marks, after_entry, at_begin, opening_past}
+use Rattle.ca_model.specs.declared.answer.Answer.TheVariants as answers
+use Rattle.ca_model.specs.declared.answer.Refusal.TheVariants.{NoSuch, OutOfRange, NoDomain, SlotTaken, CqTooSmall, WindowsBound}
+use Rattle.ca_model.specs.declared.event.Event.{Event}
+use Rattle.ca_model.specs.declared.event.Event.TheVariants as events
+use Rattle.ca_model.specs.declared.mark.Mark.{Mark}
+use Rattle.ca_model.specs.declared.verb.Verb.{Verb}
+use Rattle.ca_model.specs.declared.verb.Verb.TheVariants as verbs
+use Rattle.ca_model.specs.machine.Around.{Around}
+use Rattle.ca_model.specs.machine.CompletionVerbs.{Poll_of, Take_plan, With_place, With_places, after_poll, poll_plan, receives_after_poll, slot_after_poll, source_of_completion}
+use Rattle.ca_model.specs.machine.Delivery.{Arrive}
+use Rattle.ca_model.specs.machine.HostVerbs.{inject_plan}
+use Rattle.ca_model.specs.machine.Plan.{Did, NotReady, Outcome, Plan, If, Look, Stuck, Update, ◌:=◌, put_all}
+use Rattle.ca_model.specs.machine.QueuePairVerbs.{Creation, With_shared, before_receives, beside, create_qp_plan, destroy_qp_plan, emptied_mailbox, has_bad_depth, has_no_room, has_queues, left_updates, new_queue, places_held, receive_reserve, receive_room, send_reserved, user_updates, without_queue}
+use Rattle.ca_model.specs.machine.Sound.{AreLimited, CanBeMade, IsSoundWorld}
+use Rattle.ca_model.specs.machine.Frame.{Afterwards}
+use Rattle.ca_model.specs.machine.Run.{Follows, Ran, go_on, run_from}
+use Rattle.ca_model.specs.Entries.{EntryValue}
 use Rattle.ca_law_endings.proofs.EventFitLemmas.{first-marks}
 use Rattle.ca_law_world.proofs.Sound.SoundLemmas.{event-sound, opening-sound}
 use Rattle.std.specs.List.{AllByRecursion}
-use Rattle.ca_law_world.specs.ca_model.machine.Step.{plan, step, verb_plan}
-use Rattle.ca_law_world.specs.ca_model.machine.VerbAnswers.{Answer_plan, Call, Refuse_plan, Unless_plan, answer_mark}
-use Rattle.ca_law_world.specs.ca_model.machine.World.{Cq_of, Domain_of, Mailbox_of, Queue_of, Srq_of, World, opening_world}
+use Rattle.ca_model.specs.machine.Step.{plan, step, verb_plan}
+use Rattle.ca_model.specs.machine.VerbAnswers.{Answer_plan, Call, Refuse_plan, Unless_plan, answer_mark}
+use Rattle.ca_model.specs.machine.World.{Cq_of, Domain_of, Mailbox_of, Queue_of, Srq_of, World, opening_world}
 use Rattle.ca_law_world.proofs.Sound.WorldLemmas.{around_in, shared_of}
 use Rattle.ca_law_world.proofs.Sound.SettledLemmas.{queue-path}
 

@@ -11,14 +11,14 @@ use Rattle.ca_base.specs.objects.SharedReceives.{SrqSlot, after_receive_take}
 use Rattle.ca_keys.specs.Equal.{queue_eq}
 use Rattle.ca_keys.specs.Memory.{memory_after}
 use Rattle.ca_keys.specs.declared.names.QueueId.{QueueId}
-use Rattle.ca_law_world.specs.ca_model.Past.{Envelope, Past, after_mark, after_marks, at_begin}
-use Rattle.ca_law_world.specs.ca_model.declared.event.Event.{Event}
-use Rattle.ca_law_world.specs.ca_model.declared.mark.Mark.{Mark}
-use Rattle.ca_law_world.specs.ca_model.declared.mark.Mark.TheVariants as marks
-use Rattle.ca_law_world.specs.ca_model.machine.Around.{Around, srq_updates, updates_of}
-use Rattle.ca_law_world.specs.ca_model.machine.Plan.{Update, ◌:=◌, Write, put_all, write_all}
-use Rattle.ca_law_world.specs.ca_model.machine.Row.{Effects}
-use Rattle.ca_law_world.specs.ca_model.machine.World.{World, Name, Domain_of, Region_of, Window_of, Cq_of, Srq_of, Queue_of, Mailbox_of, Byte_at, Thing, put}
+use Rattle.ca_model.specs.Past.{Envelope, Past, after_mark, after_marks, at_begin}
+use Rattle.ca_model.specs.declared.event.Event.{Event}
+use Rattle.ca_model.specs.declared.mark.Mark.{Mark}
+use Rattle.ca_model.specs.declared.mark.Mark.TheVariants as marks
+use Rattle.ca_model.specs.machine.Around.{Around, srq_updates, updates_of}
+use Rattle.ca_model.specs.machine.Plan.{Update, ◌:=◌, Write, put_all, write_all}
+use Rattle.ca_model.specs.machine.Row.{Effects}
+use Rattle.ca_model.specs.machine.World.{World, Name, Domain_of, Region_of, Window_of, Cq_of, Srq_of, Queue_of, Mailbox_of, Byte_at, Thing, put}
 use Rattle.ca_law_world.proofs.Sound.SettledLemmas.{queue-path}
 
 -- two pasts that say the same of paths

@@ -20,21 +20,21 @@ use Rattle.ca_base.specs.objects.Window.{Window, after_draw, byte_drawn}
 use Rattle.ca_base.specs.objects.WorkQueue.{with_item}
 use Rattle.ca_keys.specs.Numbers.{key_at, queue_of, window_index}
 use Rattle.ca_keys.specs.declared.names.Slot.{Slot}
-use Rattle.ca_law_world.specs.ca_model.Past.{Past, after_mark, after_marks, at_begin}
-use Rattle.ca_law_world.specs.ca_model.declared.answer.Answer.TheVariants as answers
-use Rattle.ca_law_world.specs.ca_model.declared.answer.Refusal.TheVariants.{NoSuch}
-use Rattle.ca_law_world.specs.ca_model.declared.event.Event.TheVariants as events
-use Rattle.ca_law_world.specs.ca_model.declared.mark.Mark.{Mark}
-use Rattle.ca_law_world.specs.ca_model.declared.verb.Verb.{Verb}
-use Rattle.ca_law_world.specs.ca_model.declared.verb.Verb.TheVariants as verbs
-use Rattle.ca_law_world.specs.ca_model.machine.Around.{completions_to}
-use Rattle.ca_law_world.specs.ca_model.machine.Completions.{flush_marks}
-use Rattle.ca_law_world.specs.ca_model.machine.Plan.{Plan, Look, Update, ◌:=◌, Write, put_all, write_all}
-use Rattle.ca_law_world.specs.ca_model.machine.PostingVerbs.{Posted_send, after_flush, marks_of_flush, post_recv_plan, post_recv_refusals, post_send_plan, post_send_refusals, with_send}
-use Rattle.ca_law_world.specs.ca_model.machine.QueuePairVerbs.{With_present, beside}
-use Rattle.ca_law_world.specs.ca_model.machine.Sound.{IsQueueOf, IsSoundWorld}
-use Rattle.ca_law_world.specs.ca_model.machine.VerbAnswers.{Answer_plan, Call, Refuse_plan, Unless_plan, answer_mark}
-use Rattle.ca_law_world.specs.ca_model.machine.World.{Cq_of, Queue_of, Window_of, World}
+use Rattle.ca_model.specs.Past.{Past, after_mark, after_marks, at_begin}
+use Rattle.ca_model.specs.declared.answer.Answer.TheVariants as answers
+use Rattle.ca_model.specs.declared.answer.Refusal.TheVariants.{NoSuch}
+use Rattle.ca_model.specs.declared.event.Event.TheVariants as events
+use Rattle.ca_model.specs.declared.mark.Mark.{Mark}
+use Rattle.ca_model.specs.declared.verb.Verb.{Verb}
+use Rattle.ca_model.specs.declared.verb.Verb.TheVariants as verbs
+use Rattle.ca_model.specs.machine.Around.{completions_to}
+use Rattle.ca_model.specs.machine.Completions.{flush_marks}
+use Rattle.ca_model.specs.machine.Plan.{Plan, Look, Update, ◌:=◌, Write, put_all, write_all}
+use Rattle.ca_model.specs.machine.PostingVerbs.{Posted_send, after_flush, marks_of_flush, post_recv_plan, post_recv_refusals, post_send_plan, post_send_refusals, with_send}
+use Rattle.ca_model.specs.machine.QueuePairVerbs.{With_present, beside}
+use Rattle.ca_model.specs.machine.Sound.{IsQueueOf, IsSoundWorld}
+use Rattle.ca_model.specs.machine.VerbAnswers.{Answer_plan, Call, Refuse_plan, Unless_plan, answer_mark}
+use Rattle.ca_model.specs.machine.World.{Cq_of, Queue_of, Window_of, World}
 use Rattle.ca_law_world.proofs.Sound.WorldLemmas.{is-there}
 
 -- the call of a verb, and what it leaves of the agreement

@@ -12,15 +12,15 @@ use Rattle.ca_base.specs.objects.Window.{Binding, Window}
 use Rattle.ca_keys.specs.declared.key.Key.{Key}
 use Rattle.ca_keys.specs.declared.names.DomainId.{DomainId}
 use Rattle.ca_keys.specs.declared.rights.Rights.{Rights}
-use Rattle.ca_law_world.specs.ca_model.declared.mark.Mark.{Mark}
-use Rattle.ca_law_world.specs.ca_model.machine.LocalOperations.{Bind1_plan, Bind2_plan, Fast_plan, Finishing, Perform_op, PlacedRegion, With_former, With_named, bind1_changes, bind1_marks, bind1_refusal, bind2_changes, bind2_marks, bind2_refusal, drawn_by, fast_changes, fast_marks, fast_refusal, invalidate_row, operation_effects, region_slot, window_slot}
-use Rattle.ca_law_world.specs.ca_model.machine.Numbering.{Numbered}
-use Rattle.ca_law_world.specs.ca_model.machine.Plan.{Plan, Look, Update, Write}
-use Rattle.ca_law_world.specs.ca_model.machine.Row.{Effects, queue_and_marks, region_under, unless_none}
-use Rattle.ca_law_world.specs.ca_model.machine.World.{Region_of, World}
+use Rattle.ca_model.specs.declared.mark.Mark.{Mark}
+use Rattle.ca_model.specs.machine.LocalOperations.{Bind1_plan, Bind2_plan, Fast_plan, Finishing, Perform_op, PlacedRegion, With_former, With_named, bind1_changes, bind1_marks, bind1_refusal, bind2_changes, bind2_marks, bind2_refusal, drawn_by, fast_changes, fast_marks, fast_refusal, invalidate_row, operation_effects, region_slot, window_slot}
+use Rattle.ca_model.specs.machine.Numbering.{Numbered}
+use Rattle.ca_model.specs.machine.Plan.{Plan, Look, Update, Write}
+use Rattle.ca_model.specs.machine.Row.{Effects, queue_and_marks, region_under, unless_none}
+use Rattle.ca_model.specs.machine.World.{Region_of, World}
 use Rattle.ca_law_endings.proofs.LeadsLemmas.{AreAside, leads-row, unless-aside}
 use Rattle.ca_law_endings.proofs.InnerLemmas.{IsInner, invalidate-inner, operation-inner}
-use Rattle.ca_law_world.specs.ca_model.machine.LocalOperations.{former_updates, named_updates}
+use Rattle.ca_model.specs.machine.LocalOperations.{former_updates, named_updates}
 
 aside-append : (xs ys : List Update) → AreAside xs → AreAside ys → AreAside (xs ++ ys)
 aside-append [] ys one other = other

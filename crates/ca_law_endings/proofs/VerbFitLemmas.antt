@@ -26,25 +26,25 @@ use Rattle.ca_base.specs.objects.Window.{Window, after_draw, byte_drawn}
 use Rattle.ca_keys.specs.Numbers.{key_at, queue_of, window_index}
 use Rattle.ca_keys.specs.declared.names.QueueId.{QueueId}
 use Rattle.ca_keys.specs.declared.names.Slot.{Slot}
-use Rattle.ca_law_world.specs.ca_model.History.{IsAnswerTo}
-use Rattle.ca_law_world.specs.ca_model.declared.answer.Answer.{Answer}
-use Rattle.ca_law_world.specs.ca_model.declared.answer.Answer.TheVariants as answers
-use Rattle.ca_law_world.specs.ca_model.declared.answer.Refusal.{Refusal}
-use Rattle.ca_law_world.specs.ca_model.declared.answer.Refusal.TheVariants.{NoSuch, OutOfRange}
-use Rattle.ca_law_world.specs.ca_model.declared.mark.Mark.{Mark}
-use Rattle.ca_law_world.specs.ca_model.declared.verb.Verb.{Verb}
-use Rattle.ca_law_world.specs.ca_model.declared.verb.Verb.TheVariants as verbs
-use Rattle.ca_law_world.specs.ca_model.machine.Completions.{flush_marks}
-use Rattle.ca_law_world.specs.ca_model.machine.CompletionVerbs.{Poll_of, Take_plan, With_place, With_places, poll_plan}
-use Rattle.ca_law_world.specs.ca_model.machine.Delivery.{Arrive}
-use Rattle.ca_law_world.specs.ca_model.machine.HostVerbs.{inject_plan}
-use Rattle.ca_law_world.specs.ca_model.machine.Plan.{Plan, If, Look, Stuck, Update, ◌:=◌}
-use Rattle.ca_law_world.specs.ca_model.machine.PostingVerbs.{Posted_send, after_flush, marks_of_flush, post_recv_plan, post_recv_refusals, post_send_plan, post_send_refusals, with_send}
-use Rattle.ca_law_world.specs.ca_model.machine.QueuePairVerbs.{With_present, beside, emptied_mailbox, emptied_updates, modify_qp_plan}
-use Rattle.ca_law_world.specs.ca_model.machine.Step.{verb_plan}
-use Rattle.ca_law_world.specs.ca_model.machine.VerbAnswers.{Answer_plan, Call, Refuse_plan, Unless_plan, answer_mark, of_change_refusals}
-use Rattle.ca_law_world.specs.ca_model.machine.World.{Cq_of, Mailbox_of, Queue_of, Window_of, World}
-use Rattle.ca_law_world.specs.ca_model.machine.Around.{Around, With_around, completions_to, cq_updates}
+use Rattle.ca_model.specs.History.{IsAnswerTo}
+use Rattle.ca_model.specs.declared.answer.Answer.{Answer}
+use Rattle.ca_model.specs.declared.answer.Answer.TheVariants as answers
+use Rattle.ca_model.specs.declared.answer.Refusal.{Refusal}
+use Rattle.ca_model.specs.declared.answer.Refusal.TheVariants.{NoSuch, OutOfRange}
+use Rattle.ca_model.specs.declared.mark.Mark.{Mark}
+use Rattle.ca_model.specs.declared.verb.Verb.{Verb}
+use Rattle.ca_model.specs.declared.verb.Verb.TheVariants as verbs
+use Rattle.ca_model.specs.machine.Completions.{flush_marks}
+use Rattle.ca_model.specs.machine.CompletionVerbs.{Poll_of, Take_plan, With_place, With_places, poll_plan}
+use Rattle.ca_model.specs.machine.Delivery.{Arrive}
+use Rattle.ca_model.specs.machine.HostVerbs.{inject_plan}
+use Rattle.ca_model.specs.machine.Plan.{Plan, If, Look, Stuck, Update, ◌:=◌}
+use Rattle.ca_model.specs.machine.PostingVerbs.{Posted_send, after_flush, marks_of_flush, post_recv_plan, post_recv_refusals, post_send_plan, post_send_refusals, with_send}
+use Rattle.ca_model.specs.machine.QueuePairVerbs.{With_present, beside, emptied_mailbox, emptied_updates, modify_qp_plan}
+use Rattle.ca_model.specs.machine.Step.{verb_plan}
+use Rattle.ca_model.specs.machine.VerbAnswers.{Answer_plan, Call, Refuse_plan, Unless_plan, answer_mark, of_change_refusals}
+use Rattle.ca_model.specs.machine.World.{Cq_of, Mailbox_of, Queue_of, Window_of, World}
+use Rattle.ca_model.specs.machine.Around.{Around, With_around, completions_to, cq_updates}
 use Rattle.ca_law_world.proofs.Sound.WorldLemmas.{around_in, shared_of}
 
 -- the marks of a call: its answer, and then marks that are no answers and tell of no packet that is sent

@@ -9,11 +9,11 @@ use Rattle.ca_base.specs.declared.mail_envelope.MailEnvelope.{MailEnvelope}
 use Rattle.ca_base.specs.objects.Mailbox.{Mailbox, is_lost}
 use Rattle.ca_base.specs.objects.QueuePair.{QueueSlot, incarnation_of, queue_in}
 use Rattle.ca_keys.specs.declared.names.QueueId.{QueueId}
-use Rattle.ca_law_world.specs.ca_model.Entries.{EntryValue}
-use Rattle.ca_law_world.specs.ca_model.Past.{Envelope, Naming, Past, after_entry, envelope_sent}
-use Rattle.ca_law_world.specs.ca_model.machine.Frame.{Afterwards}
-use Rattle.ca_law_world.specs.ca_model.machine.Step.{step}
-use Rattle.ca_law_world.specs.ca_model.machine.World.{World}
+use Rattle.ca_model.specs.Entries.{EntryValue}
+use Rattle.ca_model.specs.Past.{Envelope, Naming, Past, after_entry, envelope_sent}
+use Rattle.ca_model.specs.machine.Frame.{Afterwards}
+use Rattle.ca_model.specs.machine.Step.{step}
+use Rattle.ca_model.specs.machine.World.{World}
 
 -- the peer that the queue pair of a slot named
 abbrev pub peer_in : QueueSlot → Option Correspondent

@@ -1,11 +1,11 @@
 -- Packets that arrive: the part of Carried that speaks of them. Laws cite it.
 use Rattle.std.specs.Prelude.{Bool, true, IsTrue, List}
 use Rattle.ca_keys.specs.Memory.{ByteMap}
-use Rattle.ca_law_world.specs.ca_model.Carried.{has_arrived}
-use Rattle.ca_law_world.specs.ca_model.Entries.{EntryValue}
-use Rattle.ca_law_world.specs.ca_model.Past.{Past, each_entry, opening_past}
-use Rattle.ca_law_world.specs.ca_model.declared.mark.Mark.{Mark}
-use Rattle.ca_law_world.specs.ca_model.declared.mark.Mark.TheVariants as marks
+use Rattle.ca_model.specs.Carried.{has_arrived}
+use Rattle.ca_model.specs.Entries.{EntryValue}
+use Rattle.ca_model.specs.Past.{Past, each_entry, opening_past}
+use Rattle.ca_model.specs.declared.mark.Mark.{Mark}
+use Rattle.ca_model.specs.declared.mark.Mark.TheVariants as marks
 
 -- a packet that arrives by an index is among the latest that were sent, not lost, and its queue pair was neither
 -- reset nor destroyed since; one without an index is injected by its event

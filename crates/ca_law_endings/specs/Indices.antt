@@ -2,11 +2,11 @@
 use Rattle.std.specs.Prelude.{Bool, true, ◌==◌, IsTrue, List}
 use Rattle.std.specs.Option.{option_eq}
 use Rattle.ca_keys.specs.Memory.{ByteMap}
-use Rattle.ca_law_world.specs.ca_model.Carried.{index_to}
-use Rattle.ca_law_world.specs.ca_model.Entries.{EntryValue}
-use Rattle.ca_law_world.specs.ca_model.Past.{Past, each_entry, opening_past}
-use Rattle.ca_law_world.specs.ca_model.declared.mark.Mark.{Mark}
-use Rattle.ca_law_world.specs.ca_model.declared.mark.Mark.TheVariants as marks
+use Rattle.ca_model.specs.Carried.{index_to}
+use Rattle.ca_model.specs.Entries.{EntryValue}
+use Rattle.ca_model.specs.Past.{Past, each_entry, opening_past}
+use Rattle.ca_model.specs.declared.mark.Mark.{Mark}
+use Rattle.ca_model.specs.declared.mark.Mark.TheVariants as marks
 
 -- a packet that is sent has the next index of its target where a path leads there, and else none
 abbrev pub has_its_index : Past → Mark → Bool

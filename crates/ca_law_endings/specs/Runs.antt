@@ -1,10 +1,10 @@
 -- Where plans and runs end: what holds of the world that an event leaves and of its marks. Laws cite it.
 use Rattle.std.specs.Prelude.{◌≡◌, ℕ, suc, true, false, List, [], ◌∷◌}
 use Rattle.ca_keys.specs.Memory.{bytes_at}
-use Rattle.ca_law_world.specs.ca_model.declared.mark.Mark.{Mark}
-use Rattle.ca_law_world.specs.ca_model.Entries.{EntryValue}
-use Rattle.ca_law_world.specs.ca_model.machine.Plan.{Plan, Stuck, Look, Read, If, Finish, Outcome, NotReady, Did, put_all, write_all}
-use Rattle.ca_law_world.specs.ca_model.machine.World.{World, get}
+use Rattle.ca_model.specs.declared.mark.Mark.{Mark}
+use Rattle.ca_model.specs.Entries.{EntryValue}
+use Rattle.ca_model.specs.machine.Plan.{Plan, Stuck, Look, Read, If, Finish, Outcome, NotReady, Did, put_all, write_all}
+use Rattle.ca_model.specs.machine.World.{World, get}
 
 -- a plan that ends in a world and with marks of which this holds, if it does not get stuck
 abbrev pub Leads : World → (World → List Mark → Type 0) → Plan → Type 0

@@ -8,14 +8,14 @@ ghost use Rattle.ca_base.specs.Configuration.{Configuration};
 ghost use Rattle.ca_base.specs.objects.Mailbox.{bytes_lent};
 ghost use Rattle.ca_keys.specs.Memory.{ByteMap};
 ghost use Rattle.ca_keys.specs.declared.names.QueueId.{QueueId};
-ghost use Rattle.ca_law_world.specs.ca_model.Entries.{EntryValue};
-ghost use Rattle.ca_law_world.specs.ca_model.History.{FitTheEvent, IsHistory};
-ghost use Rattle.ca_law_world.specs.ca_model.Past.{Past, after_marks, at_begin, opening_past};
-ghost use Rattle.ca_law_world.specs.ca_model.declared.event.Event.{Event};
-ghost use Rattle.ca_law_world.specs.ca_model.machine.Run.{Follows};
-ghost use Rattle.ca_law_world.specs.ca_model.machine.Sound.{AreLimited, CanBeMade, IsSoundWorld};
-ghost use Rattle.ca_law_world.specs.ca_model.machine.Step.{step};
-ghost use Rattle.ca_law_world.specs.ca_model.machine.World.{World, opening_world};
+ghost use Rattle.ca_model.specs.Entries.{EntryValue};
+ghost use Rattle.ca_model.specs.History.{FitTheEvent, IsHistory};
+ghost use Rattle.ca_model.specs.Past.{Past, after_marks, at_begin, opening_past};
+ghost use Rattle.ca_model.specs.declared.event.Event.{Event};
+ghost use Rattle.ca_model.specs.machine.Run.{Follows};
+ghost use Rattle.ca_model.specs.machine.Sound.{AreLimited, CanBeMade, IsSoundWorld};
+ghost use Rattle.ca_model.specs.machine.Step.{step};
+ghost use Rattle.ca_model.specs.machine.World.{World, opening_world};
 
 /// The marks of every event, in every world, fit it: a verb's first mark is its answer, with the consumer and the verb of
 /// the event, no other mark is one, and each completion is of the queue pair that its mark names.

@@ -23,7 +23,7 @@ use Rattle.ca_keys.specs.declared.names.Slot.{Slot}
 use Rattle.ca_keys.specs.declared.place.Run.{Run}
 use Rattle.ca_keys.specs.declared.rights.Rights.{Rights}
 use Rattle.ca_law_keys.proofs.Judged.WholeLemmas.{some-path}
-use Rattle.ca_law_keys.proofs.of_ca_law_parts.Names.PlanLemmas.{GrantIn, cut-in}
+use Rattle.ca_law_parts.proofs.Names.PlanLemmas.{GrantIn, cut-in}
 use Rattle.ca_law_world.proofs.Sound.RegionLemmas.{sound-fast}
 use Rattle.ca_law_world.proofs.Sound.TurnLemmas.{all-fail}
 use Rattle.ca_law_isolation.proofs.BoundedRows.{IsIn, invalidate-in, operation-in}

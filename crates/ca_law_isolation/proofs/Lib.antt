@@ -18,8 +18,3 @@ pub mod BoundedEvents
 pub mod PastLemmas
 pub mod StoreLemmas
 pub mod AloneLemmas
--- The libraries below, handed on to those above.
-pub use Rattle.ca_law_world.proofs as of_ca_law_world
-pub use Rattle.ca_law_parts.proofs as of_ca_law_parts
-pub use Rattle.ca_law_endings.proofs as of_ca_law_endings
-pub use Rattle.ca_law_keys.proofs as of_ca_law_keys

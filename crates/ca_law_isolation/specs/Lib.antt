@@ -1,7 +1,2 @@
 pub mod Domains
 pub mod Bounds
--- The libraries below, handed on to those above.
-pub use Rattle.ca_law_parts.specs.ca_law_world
-pub use Rattle.ca_law_parts.specs as ca_law_parts
-pub use Rattle.ca_law_endings.specs as ca_law_endings
-pub use Rattle.ca_law_keys.specs as ca_law_keys

@@ -4,7 +4,7 @@ use Rattle.std.specs.Option.{option_map_or}
 use Rattle.ca_law_endings.proofs.InnerLemmas.{IsInner, packet-inner, respond-inner}
 use Rattle.ca_law_endings.proofs.LeadsLemmas.{AreAside, comes, leads-around, leads-queue, leads-unless}
 use Rattle.ca_law_endings.specs.Runs.{Comes, Leads}
-use Rattle.ca_law_once.proofs.of_ca_law_order.Polls.OperationLemmas.{leads-operation}
+use Rattle.ca_law_order.proofs.Polls.OperationLemmas.{leads-operation}
 use Rattle.ca_base.specs.Configuration.{Configuration}
 use Rattle.ca_base.specs.declared.correspondent.Correspondent.{Correspondent}
 use Rattle.ca_base.specs.declared.lot.Lot.{Lot}

@@ -3,8 +3,8 @@ use Rattle.std.proofs.Common.{◌≡◌, ℕ, suc, ◌+◌, ◌^◌, inr, Bool, 
 use Rattle.ca_law_endings.proofs.LeadsLemmas.{comes, leads-weaker}
 use Rattle.ca_law_endings.specs.Agreement.{peer_in}
 use Rattle.ca_law_endings.specs.Runs.{Comes, Leads}
-use Rattle.ca_law_once.proofs.of_ca_law_order.Polls.PlanLemmas.{created, leads-create, leads-poll}
-use Rattle.ca_law_once.proofs.of_ca_law_order.Polls.PostingLemmas.{Refuses}
+use Rattle.ca_law_order.proofs.Polls.PlanLemmas.{created, leads-create, leads-poll}
+use Rattle.ca_law_order.proofs.Polls.PostingLemmas.{Refuses}
 use Rattle.ca_base.specs.Configuration.{Configuration}
 use Rattle.ca_base.specs.declared.change.Change as state_change
 use Rattle.ca_base.specs.declared.change.Change.TheVariants as changes

@@ -1,6 +1,6 @@
 -- What a queue pair is before it sends and receives. Laws cite it.
 use Rattle.std.specs.Prelude.{◌≡◌, true, [], None}
-use Rattle.ca_law_order.specs.ca_law_endings.Agreement.{peer_in}
+use Rattle.ca_law_endings.specs.Agreement.{peer_in}
 use Rattle.ca_base.specs.objects.QueuePair.{QueuePair, QueueSlot, NoQueue, Present}
 use Rattle.ca_keys.specs.declared.names.QueueId.{QueueId}
 use Rattle.ca_model.specs.machine.Invariants.{is_fresh, is_idle}

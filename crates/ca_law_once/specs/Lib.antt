@@ -13,7 +13,3 @@ pub mod Connections
 pub mod AtMostOnce
 pub mod Written
 pub mod WrittenTold
--- The libraries below, handed on to those above.
-pub use Rattle.ca_law_endings.specs as ca_law_endings
-pub use Rattle.ca_law_carried.specs.ca_law_world
-pub use Rattle.ca_law_carried.specs.ca_law_keys

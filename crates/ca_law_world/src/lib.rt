@@ -23,8 +23,6 @@
 
 mod laws;
 
-pub use ca_model;
-pub use ca_model::ca_wire;
 pub use laws::{
     bound_window_is_counted, ended_window_is_counted, event_keeps_queue_pairs_steady,
     event_keeps_windows_counted, event_keeps_worlds_sound, opening_queue_pairs_are_steady,

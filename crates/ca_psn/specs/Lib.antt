@@ -1,3 +1,1 @@
 pub mod Psn
--- The libraries below, handed on to those above.
-pub use Rattle.ca_base.specs as ca_base

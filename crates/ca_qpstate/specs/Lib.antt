@@ -3,4 +3,4 @@ pub mod ComesUp
 pub mod Start
 pub mod Fields
 -- The libraries below, handed on to those above.
-pub use Rattle.ca_law_world.specs.ca_model
+pub use Rattle.ca_model.specs as ca_model

@@ -3,7 +3,7 @@ ghost use Rattle.ca_base.specs.objects.StateTable as table;
 ghost use Rattle.ca_base.specs.declared.settings.Settings.{Settings};
 ghost use Rattle.ca_base.specs.ca_keys.declared.names.QueueId.{QueueId};
 ghost use Rattle.ca_base.specs.declared.change.Change.TheVariants as changes;
-ghost use Rattle.ca_law_world.specs.ca_model.machine.Invariants.{NamesPeer};
+ghost use Rattle.ca_model.specs.machine.Invariants.{NamesPeer};
 ghost use Rattle.ca_qpstate.specs.Fields.{refusal_of_fields};
 
 use ca_base::limits::{MAX_READS, MAX_RETRY, MAX_RNR_CODE, PSN_COUNT};

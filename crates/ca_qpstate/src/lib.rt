@@ -15,6 +15,7 @@ mod queue_part;
 mod state_table;
 
 pub use ca_base::{Change, Field, ModifyRefusal, State};
-pub use ca_law_world::{ca_model, ca_wire};
+pub use ca_model;
+pub use ca_model::ca_wire;
 pub use ca_workqueue;
 pub use queue_part::QueuePart;

@@ -58,7 +58,7 @@ impl QueuePart {
     ghost use Rattle.std.specs.Prelude.{◌≡◌, ◌-◌, ◌^◌, ◌<◌, None, Some, IfOk, IfErr, IfNone, OnOk, OnErr};
     ghost use Rattle.ca_base.specs.objects.QueuePair as objects;
     ghost use Rattle.ca_base.specs.objects.StateTable.{queue_after_change};
-    ghost use Rattle.ca_law_world.specs.ca_model.machine.Invariants.{IsQueue, NamesPeer};
+    ghost use Rattle.ca_model.specs.machine.Invariants.{IsQueue, NamesPeer};
     ghost use Rattle.ca_qpstate.specs.ComesUp.{AreDepths};
     ghost use Rattle.ca_qpstate.specs.Fields.{refusal_of_change};
 

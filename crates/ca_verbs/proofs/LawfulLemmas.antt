@@ -5,13 +5,13 @@ use Rattle.ca_law_endings.proofs.EventFitLemmas.{followed-is-history}
 use Rattle.ca_law_endings.specs.Runs.{AreStamped}
 use Rattle.ca_base.specs.Configuration.{configuration_in}
 use Rattle.ca_base.specs.declared.settings.Settings.{Settings}
-use Rattle.ca_law_caused.proofs.of_ca_law_carried.Carried.EndEventLemmas.{whole-along}
+use Rattle.ca_law_carried.proofs.Carried.EndEventLemmas.{whole-along}
 use Rattle.ca_law_caused.proofs.Link.HistoryLemmas.{caused-along}
 use Rattle.ca_verbs_machine.specs.declared.asked.Told.{Told}
 use Rattle.ca_law_isolation.proofs.AloneLemmas.{alone-goes}
-use Rattle.ca_law_isolation.proofs.of_ca_law_keys.Judged.JudgeEventLemmas.{judged-along}
+use Rattle.ca_law_keys.proofs.Judged.JudgeEventLemmas.{judged-along}
 use Rattle.ca_keys.specs.Memory.{zeros}
-use Rattle.ca_law_caused.proofs.of_ca_law_keys.Licensed.LicensedLemmas.{licensed-along}
+use Rattle.ca_law_keys.proofs.Licensed.LicensedLemmas.{licensed-along}
 use Rattle.ca_model.specs.Entries.{EntryValue, entry_of}
 use Rattle.ca_model.specs.declared.entry.Entry.{Entry}
 use Rattle.ca_model.specs.declared.event.Event.{Event}

@@ -1,5 +1,5 @@
 ghost use Rattle.std.specs.Prelude.{◌≡◌, ◌<◌, ◌≤◌, List, ℕ, true};
-ghost use Rattle.ca_law_once.specs.ca_law_endings.Runs.{Comes};
+ghost use Rattle.ca_law_endings.specs.Runs.{Comes};
 ghost use Rattle.ca_base.specs.Configuration.{Configuration};
 ghost use Rattle.ca_base.specs.declared.lot.Lot.{Lot};
 ghost use Rattle.ca_base.specs.objects.QueuePair.{Present, QueuePair};

@@ -32,8 +32,8 @@ use Rattle.ca_keys.specs.declared.access.Kind.{Kind}
 use Rattle.ca_keys.specs.declared.key.Key.{Key}
 use Rattle.ca_keys.specs.declared.names.QueueId.{QueueId}
 use Rattle.ca_keys.specs.declared.verdict.Verdict.{Verdict}
-use Rattle.ca_law_keys.proofs.of_ca_law_world.Sound.WorldLemmas.{RowDoes}
-use Rattle.ca_law_keys.specs.ca_law_world.Bindings.{IsBoundWorld}
+use Rattle.ca_law_world.proofs.Sound.WorldLemmas.{RowDoes}
+use Rattle.ca_law_world.specs.Bindings.{IsBoundWorld}
 use Rattle.ca_model.specs.Carried.{arrived_so, asks_for, goes_on, is_rest_of, names_all, names_atomic, names_write, writes_payload}
 use Rattle.ca_model.specs.Packets.{asks_atomic, continues_write, is_response, is_write, number_put, packet_of}
 use Rattle.ca_model.specs.Past.{LatestWrite, Past, ReadRequest, latest_write_after, packet_at, remote_ask}

@@ -14,7 +14,7 @@ use Rattle.ca_keys.specs.Equal.{queue_eq}
 use Rattle.ca_keys.specs.declared.access.Ask.{Ask}
 use Rattle.ca_keys.specs.declared.names.QueueId.{QueueId}
 use Rattle.ca_keys.specs.declared.verdict.Verdict.{Verdict}
-use Rattle.ca_law_keys.proofs.of_ca_law_world.Sound.SettledLemmas.{queue-path}
+use Rattle.ca_law_world.proofs.Sound.SettledLemmas.{queue-path}
 use Rattle.ca_model.specs.Past.{LatestWrite, Past, ReadRequest, after_mark, after_marks, after_remote, correspondent_eq, each_mark, latest_write_after, packet_at, present_incarnation, read_request_of, with_at}
 use Rattle.ca_model.specs.declared.mark.Mark.{Mark}
 use Rattle.ca_model.specs.machine.Row.{Effects}

@@ -25,8 +25,8 @@ use Rattle.ca_keys.specs.Numbers.{queue_of}
 use Rattle.ca_keys.specs.Refusals.{AllFail}
 use Rattle.ca_keys.specs.declared.names.QueueId.{QueueId}
 use Rattle.ca_keys.specs.declared.names.Slot.{Slot}
-use Rattle.ca_law_keys.proofs.of_ca_law_world.Sound.SettledLemmas.{queue-path}
-use Rattle.ca_law_keys.proofs.of_ca_law_world.Sound.WorldLemmas.{around_in, shared_of}
+use Rattle.ca_law_world.proofs.Sound.SettledLemmas.{queue-path}
+use Rattle.ca_law_world.proofs.Sound.WorldLemmas.{around_in, shared_of}
 use Rattle.ca_model.specs.Past.{Naming, Past, with_at}
 use Rattle.ca_model.specs.declared.answer.Refusal.{Refusal}
 use Rattle.ca_model.specs.declared.answer.Refusal.TheVariants.{CqTooSmall, NoDomain, NoSuch, OutOfRange, SlotTaken, WindowsBound}

@@ -28,9 +28,9 @@ use Rattle.ca_keys.specs.declared.key.Key.{Key}
 use Rattle.ca_keys.specs.declared.names.DomainId.{DomainId}
 use Rattle.ca_keys.specs.declared.names.Slot.{Slot}
 use Rattle.ca_keys.specs.declared.rights.Rights.{Rights}
-use Rattle.ca_law_keys.proofs.of_ca_law_world.Sound.TurnLemmas.{all-fail}
-use Rattle.ca_law_keys.proofs.of_ca_law_world.Sound.WorldLemmas.{EndingDoes, RowDoes}
-use Rattle.ca_law_keys.specs.ca_law_world.Bindings.{IsBoundWorld, LiesIn}
+use Rattle.ca_law_world.proofs.Sound.TurnLemmas.{all-fail}
+use Rattle.ca_law_world.proofs.Sound.WorldLemmas.{EndingDoes, RowDoes}
+use Rattle.ca_law_world.specs.Bindings.{IsBoundWorld, LiesIn}
 use Rattle.ca_model.proofs.PerformLemmas.{row-performs}
 use Rattle.ca_model.specs.Past.{LatestWrite, ReadRequest}
 use Rattle.ca_model.specs.declared.mark.Mark.{Mark}

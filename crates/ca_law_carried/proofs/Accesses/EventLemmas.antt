@@ -20,9 +20,9 @@ use Rattle.ca_base.specs.Configuration.{Configuration}
 use Rattle.ca_base.specs.objects.Slices.{has_slot}
 use Rattle.ca_law_keys.proofs.Judged.JudgeLemmas.{both-true}
 use Rattle.ca_keys.specs.Memory.{ByteMap}
-use Rattle.ca_law_keys.proofs.of_ca_law_world.Sound.SoundLemmas.{event-sound, opening-sound}
-use Rattle.ca_law_keys.proofs.of_ca_law_world.Windows.WindowEventLemmas.{event-bound, opening-bound}
-use Rattle.ca_law_keys.specs.ca_law_world.Bindings.{IsBoundWorld}
+use Rattle.ca_law_world.proofs.Sound.SoundLemmas.{event-sound, opening-sound}
+use Rattle.ca_law_world.proofs.Windows.WindowEventLemmas.{event-bound, opening-bound}
+use Rattle.ca_law_world.specs.Bindings.{IsBoundWorld}
 use Rattle.ca_model.specs.Entries.{EntryValue}
 use Rattle.ca_model.specs.Past.{Past, after_entry, after_mark, after_marks, at_begin, each_entry, each_mark, opening_past}
 use Rattle.ca_model.specs.declared.answer.Refusal.TheVariants.{NoSuch}

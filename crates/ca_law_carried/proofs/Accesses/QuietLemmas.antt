@@ -24,7 +24,7 @@ use Rattle.ca_base.specs.objects.StateTable.{is_among}
 use Rattle.ca_keys.specs.declared.access.Ask.{Ask}
 use Rattle.ca_keys.specs.declared.grant.Grant.{Grant}
 use Rattle.ca_keys.specs.declared.key.Key.{Key}
-use Rattle.ca_law_keys.proofs.of_ca_law_world.Sound.WorldLemmas.{EndingDoes, RowDoes}
+use Rattle.ca_law_world.proofs.Sound.WorldLemmas.{EndingDoes, RowDoes}
 use Rattle.ca_model.specs.Past.{LatestWrite, ReadRequest, at_end}
 use Rattle.ca_model.specs.Requests.{list_length, segments}
 use Rattle.ca_model.specs.declared.mark.Drop1.{Drop1}

@@ -27,9 +27,9 @@ use Rattle.ca_keys.specs.Equal.{queue_eq, slot_eq}
 use Rattle.ca_keys.specs.Memory.{memory_after}
 use Rattle.ca_keys.specs.declared.names.QueueId.{QueueId}
 use Rattle.ca_keys.specs.declared.names.Slot.{Slot}
-use Rattle.ca_law_keys.proofs.of_ca_law_world.Sound.SettledLemmas.{queue-path, queue-refl}
-use Rattle.ca_law_keys.proofs.of_ca_law_world.Sound.WorldLemmas.{around_in, shared_of}
-use Rattle.ca_law_keys.specs.ca_law_world.Bindings.{IsBoundWorld}
+use Rattle.ca_law_world.proofs.Sound.SettledLemmas.{queue-path, queue-refl}
+use Rattle.ca_law_world.proofs.Sound.WorldLemmas.{around_in, shared_of}
+use Rattle.ca_law_world.specs.Bindings.{IsBoundWorld}
 use Rattle.ca_model.specs.Carried.{is_rest_of}
 use Rattle.ca_model.specs.Past.{LatestWrite, Naming, Past, ReadRequest, after_marks, at_begin, each_mark, mtu_of, present_incarnation}
 use Rattle.ca_model.specs.declared.event.Event.{Event}

@@ -37,7 +37,7 @@ use Rattle.ca_keys.specs.declared.names.QueueId.{QueueId}
 use Rattle.ca_keys.specs.declared.names.Slot.{Slot}
 use Rattle.ca_keys.specs.declared.place.Run.{Run}
 use Rattle.ca_keys.specs.declared.rights.Rights.{Rights}
-use Rattle.ca_law_keys.proofs.of_ca_law_world.Sound.VerbLemmas.{polled}
+use Rattle.ca_law_world.proofs.Sound.VerbLemmas.{polled}
 use Rattle.ca_model.specs.Past.{Past, after_marks}
 use Rattle.ca_model.specs.declared.answer.Answer.{Answer}
 use Rattle.ca_model.specs.declared.answer.Refusal.TheVariants.{NoDomain, NoSuch, OutOfRange, SlotTaken}

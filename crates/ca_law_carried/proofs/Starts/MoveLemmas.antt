@@ -27,7 +27,7 @@ use Rattle.ca_base.specs.objects.WorkQueue.{WorkQueue, item_at, next_place}
 use Rattle.ca_keys.specs.Refusals.{first_of}
 use Rattle.ca_keys.specs.declared.access.Ask.{Ask}
 use Rattle.ca_keys.specs.declared.access.Kind.{Kind}
-use Rattle.ca_law_keys.proofs.of_ca_law_world.Sound.WorldLemmas.{EndingDoes, RowDoes}
+use Rattle.ca_law_world.proofs.Sound.WorldLemmas.{EndingDoes, RowDoes}
 use Rattle.ca_model.specs.Packets.{is_response}
 use Rattle.ca_model.specs.Past.{Posted}
 use Rattle.ca_model.specs.Requests.{is_local, list_length, psns_of, segments}

@@ -11,7 +11,7 @@ use Rattle.ca_law_carried.specs.Starts.{psns_before}
 use Rattle.ca_base.specs.declared.request.PostedSend.{PostedSend}
 use Rattle.ca_base.specs.objects.QueuePair.{QueuePair}
 use Rattle.ca_base.specs.objects.WorkQueue.{WorkQueue, item_at, items_from}
-use Rattle.ca_law_keys.proofs.of_ca_law_world.Sound.NumberingLemmas.{count_sum}
+use Rattle.ca_law_world.proofs.Sound.NumberingLemmas.{count_sum}
 use Rattle.ca_model.specs.Past.{Posted}
 use Rattle.ca_model.specs.Requests.{psns_of}
 use Rattle.ca_model.specs.machine.Acknowledgements.{finished_requests}

@@ -14,9 +14,9 @@ use Rattle.ca_law_carried.proofs.Starts.StartVerbLemmas.{AgreesBy, starts-deallo
 use Rattle.ca_law_carried.specs.Starts.{StartsAgree}
 use Rattle.ca_base.specs.Configuration.{Configuration}
 use Rattle.ca_keys.specs.Memory.{ByteMap}
-use Rattle.ca_law_keys.proofs.of_ca_law_world.Sound.SoundLemmas.{event-sound, opening-sound}
-use Rattle.ca_law_keys.proofs.of_ca_law_world.Steady.EventLemmas.{event-steady, opening-steady}
-use Rattle.ca_law_keys.specs.ca_law_world.Steady.{IsSteadyWorld}
+use Rattle.ca_law_world.proofs.Sound.SoundLemmas.{event-sound, opening-sound}
+use Rattle.ca_law_world.proofs.Steady.EventLemmas.{event-steady, opening-steady}
+use Rattle.ca_law_world.specs.Steady.{IsSteadyWorld}
 use Rattle.ca_model.specs.Entries.{EntryValue}
 use Rattle.ca_model.specs.Past.{Past, after_entry, after_marks, at_begin, at_end, opening_past}
 use Rattle.ca_model.specs.declared.answer.Refusal.TheVariants.{NoSuch}

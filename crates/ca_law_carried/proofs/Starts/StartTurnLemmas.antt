@@ -33,10 +33,10 @@ use Rattle.ca_keys.specs.Memory.{memory_after}
 use Rattle.ca_keys.specs.declared.grant.Grant.{Grant}
 use Rattle.ca_keys.specs.declared.key.Key.{Key}
 use Rattle.ca_keys.specs.declared.names.QueueId.{QueueId}
-use Rattle.ca_law_keys.proofs.of_ca_law_world.Sound.SettledLemmas.{queue-path}
-use Rattle.ca_law_keys.proofs.of_ca_law_world.Sound.WorldLemmas.{EndingDoes, IsThere, RowDoes, around_in, shared_of}
-use Rattle.ca_law_keys.proofs.of_ca_law_world.Steady.TurnLemmas.{there-kept}
-use Rattle.ca_law_keys.specs.ca_law_world.Steady.{IsSteadyWorld}
+use Rattle.ca_law_world.proofs.Sound.SettledLemmas.{queue-path}
+use Rattle.ca_law_world.proofs.Sound.WorldLemmas.{EndingDoes, IsThere, RowDoes, around_in, shared_of}
+use Rattle.ca_law_world.proofs.Steady.TurnLemmas.{there-kept}
+use Rattle.ca_law_world.specs.Steady.{IsSteadyWorld}
 use Rattle.ca_model.specs.Past.{Past, Posted, Start, after_mark, after_marks, at_begin, present_incarnation, start_of, whole_start, with_at}
 use Rattle.ca_model.specs.declared.answer.Refusal.TheVariants.{NoSuch}
 use Rattle.ca_model.specs.declared.event.Event.{Event}

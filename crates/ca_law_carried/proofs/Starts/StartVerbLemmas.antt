@@ -32,8 +32,8 @@ use Rattle.ca_keys.specs.Equal.{queue_eq}
 use Rattle.ca_keys.specs.Numbers.{key_at, queue_of, window_index}
 use Rattle.ca_keys.specs.declared.names.QueueId.{QueueId}
 use Rattle.ca_keys.specs.declared.names.Slot.{Slot}
-use Rattle.ca_law_keys.proofs.of_ca_law_world.Sound.SettledLemmas.{queue-path}
-use Rattle.ca_law_keys.proofs.of_ca_law_world.Sound.VerbLemmas.{polled}
+use Rattle.ca_law_world.proofs.Sound.SettledLemmas.{queue-path}
+use Rattle.ca_law_world.proofs.Sound.VerbLemmas.{polled}
 use Rattle.ca_model.specs.Past.{Past, Posted, Start, after_marks, drawn_at, present_incarnation, start_of, whole_start, with_at}
 use Rattle.ca_model.specs.declared.answer.Answer.{Answer}
 use Rattle.ca_model.specs.declared.answer.Refusal.TheVariants.{NoSuch, OutOfRange}

@@ -6,7 +6,7 @@ ghost use Rattle.ca_law_carried.specs.Accesses.{AccessesAgree, IsEndedWorld};
 ghost use Rattle.ca_law_carried.specs.Asked.{AreCarriedAccesses, HaveTheirPackets, HaveTheirRequests};
 ghost use Rattle.ca_base.specs.Configuration.{Configuration};
 ghost use Rattle.ca_keys.specs.Memory.{ByteMap};
-ghost use Rattle.ca_law_keys.specs.ca_law_world.Bindings.{IsBoundWorld};
+ghost use Rattle.ca_law_world.specs.Bindings.{IsBoundWorld};
 ghost use Rattle.ca_model.specs.Entries.{EntryValue};
 ghost use Rattle.ca_model.specs.Past.{Past, after_marks, at_begin, opening_past};
 ghost use Rattle.ca_model.specs.declared.event.Event.{Event};

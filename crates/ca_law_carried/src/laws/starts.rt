@@ -6,7 +6,7 @@ ghost use Rattle.ca_law_keys.specs.Posts.{PostsAgree};
 ghost use Rattle.ca_law_carried.specs.Starts.{StartsAgree};
 ghost use Rattle.ca_base.specs.Configuration.{Configuration};
 ghost use Rattle.ca_keys.specs.Memory.{ByteMap};
-ghost use Rattle.ca_law_keys.specs.ca_law_world.Steady.{IsSteadyWorld};
+ghost use Rattle.ca_law_world.specs.Steady.{IsSteadyWorld};
 ghost use Rattle.ca_model.specs.Entries.{EntryValue};
 ghost use Rattle.ca_model.specs.Past.{Past, after_marks, at_begin, opening_past};
 ghost use Rattle.ca_model.specs.declared.event.Event.{Event};

@@ -14,7 +14,7 @@ use Rattle.ca_base.specs.objects.SharedReceives.{SharedReceives}
 use Rattle.ca_law_caused.proofs.Caused.SuchLemmas.{RowSuch, leads-such}
 use Rattle.ca_keys.specs.Equal.{queue_eq}
 use Rattle.ca_keys.specs.declared.names.QueueId.{QueueId}
-use Rattle.ca_law_endings.proofs.of_ca_law_world.Sound.WorldLemmas.{around_in, shared_of}
+use Rattle.ca_law_world.proofs.Sound.WorldLemmas.{around_in, shared_of}
 use Rattle.ca_model.specs.Past.{with_at}
 use Rattle.ca_model.specs.declared.answer.Answer.TheVariants as answers
 use Rattle.ca_model.specs.declared.answer.Refusal.TheVariants.{NoSuch}

@@ -11,7 +11,7 @@ use Rattle.ca_law_endings.proofs.LeadsLemmas.{comes}
 use Rattle.ca_law_endings.proofs.MailSentLemmas.{lent-sent}
 use Rattle.ca_law_endings.specs.Agreement.{WereSent}
 use Rattle.ca_law_endings.specs.Runs.{Comes, Leads}
-use Rattle.ca_law_carried.proofs.of_ca_law_keys.Posts.PostMade.{life-refl}
+use Rattle.ca_law_keys.proofs.Posts.PostMade.{life-refl}
 use Rattle.ca_base.specs.Configuration.{Configuration}
 use Rattle.ca_base.specs.declared.completion.Completion.{Completion}
 use Rattle.ca_base.specs.declared.completion.WcStatus.{WcStatus}
@@ -26,7 +26,7 @@ use Rattle.ca_law_caused.proofs.Link.ToldLemmas.{Behind, IsToldOf, Unheard, own-
 use Rattle.ca_law_caused.specs.Linked.{completes_so}
 use Rattle.ca_keys.specs.Equal.{queue_eq}
 use Rattle.ca_keys.specs.declared.names.QueueId.{QueueId}
-use Rattle.ca_law_endings.proofs.of_ca_law_world.Sound.SettledLemmas.{queue-path}
+use Rattle.ca_law_world.proofs.Sound.SettledLemmas.{queue-path}
 use Rattle.ca_model.specs.Caused.{Told, told_at_hand}
 use Rattle.ca_model.specs.Once.{is_clean, is_not_injected, begins_as_expected}
 use Rattle.ca_model.specs.Packets.{packet_of}

@@ -5,7 +5,7 @@ use Rattle.std.proofs.lemmas.Option.{same_Some}
 use Rattle.std.specs.List.{list_all, list_any}
 use Rattle.std.specs.Option.{option_map_or}
 use Rattle.ca_law_endings.proofs.InnerLemmas.{AreInner, IsInnerMark}
-use Rattle.ca_law_carried.proofs.of_ca_law_keys.Posts.GrantLemmas.{both-true}
+use Rattle.ca_law_keys.proofs.Posts.GrantLemmas.{both-true}
 use Rattle.ca_base.specs.Equal.{status_eq}
 use Rattle.ca_base.specs.declared.change.Change.{Change}
 use Rattle.ca_base.specs.declared.change.Change.TheVariants as changes

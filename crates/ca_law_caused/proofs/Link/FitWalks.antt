@@ -47,9 +47,9 @@ use Rattle.ca_keys.specs.Equal.{queue_eq}
 use Rattle.ca_keys.specs.Numbers.{queue_of}
 use Rattle.ca_keys.specs.declared.names.QueueId.{QueueId}
 use Rattle.ca_keys.specs.declared.names.Slot.{Slot}
-use Rattle.ca_law_endings.proofs.of_ca_law_world.Sound.SettledLemmas.{queue-path, queue-refl}
-use Rattle.ca_law_endings.proofs.of_ca_law_world.Sound.WorldLemmas.{EndingDoes}
-use Rattle.ca_law_carried.specs.ca_law_world.Bindings.{IsBoundWorld}
+use Rattle.ca_law_world.proofs.Sound.SettledLemmas.{queue-path, queue-refl}
+use Rattle.ca_law_world.proofs.Sound.WorldLemmas.{EndingDoes}
+use Rattle.ca_law_world.specs.Bindings.{IsBoundWorld}
 use Rattle.ca_model.specs.Past.{with_at}
 use Rattle.ca_model.specs.declared.answer.Answer.TheVariants as answers
 use Rattle.ca_model.specs.declared.event.Event.{Event}

@@ -8,8 +8,8 @@ use Rattle.ca_law_endings.proofs.InnerLemmas.{IsInner, arrival-inner}
 use Rattle.ca_law_endings.proofs.LeadsLemmas.{comes}
 use Rattle.ca_law_endings.specs.Agreement.{peer_in}
 use Rattle.ca_law_endings.specs.Runs.{Comes}
-use Rattle.ca_law_carried.proofs.of_ca_law_keys.Posts.GrantLemmas.{both-true}
-use Rattle.ca_law_carried.specs.ca_law_keys.Posts.{life}
+use Rattle.ca_law_keys.proofs.Posts.GrantLemmas.{both-true}
+use Rattle.ca_law_keys.specs.Posts.{life}
 use Rattle.ca_law_carried.proofs.Starts.StartEventLemmas.{event-starts-agree, opening-starts-agree}
 use Rattle.ca_law_carried.specs.Starts.{AgreeOnStart, StartsAgree, StartsInSlot, start_in}
 use Rattle.ca_base.specs.Configuration.{Configuration}
@@ -45,8 +45,8 @@ use Rattle.ca_connection.specs.Link.{Link, Requester, Response, number_of, openi
 use Rattle.ca_keys.specs.Memory.{ByteMap}
 use Rattle.ca_keys.specs.Refusals.{first_of}
 use Rattle.ca_keys.specs.declared.names.QueueId.{QueueId}
-use Rattle.ca_law_carried.proofs.of_ca_law_world.Windows.WindowEventLemmas.{event-bound, opening-bound}
-use Rattle.ca_law_carried.specs.ca_law_world.Bindings.{IsBoundWorld}
+use Rattle.ca_law_world.proofs.Windows.WindowEventLemmas.{event-bound, opening-bound}
+use Rattle.ca_law_world.specs.Bindings.{IsBoundWorld}
 use Rattle.ca_model.specs.Caused.{Told, is_fitting_answer, told_at_hand}
 use Rattle.ca_model.specs.Entries.{EntryValue}
 use Rattle.ca_model.specs.Once.{is_clean, is_clean_pair}

@@ -7,7 +7,7 @@ use Rattle.std.specs.List.{AllByRecursion, list_any}
 use Rattle.std.specs.Option.{option_map_or}
 use Rattle.ca_law_endings.specs.Agreement.{HoldsAlong, peer_named}
 use Rattle.ca_law_endings.specs.Runs.{Comes}
-use Rattle.ca_law_carried.proofs.of_ca_law_keys.Posts.GrantLemmas.{both-true}
+use Rattle.ca_law_keys.proofs.Posts.GrantLemmas.{both-true}
 use Rattle.ca_base.specs.Configuration.{Configuration}
 use Rattle.ca_base.specs.declared.completion.Completion.{Completion}
 use Rattle.ca_base.specs.declared.completion.WcStatus.{WcStatus}

@@ -2,7 +2,7 @@
 use Rattle.std.proofs.Common.{◌≡◌, ℕ, Bool, true, false, if◌then◌else◌, List, [], ◌∷◌, take, map, Option, None, Some, refl, sym, subst, ◌∙◌, zero, suc, ◌==◌, ◌-◌}
 use Rattle.std.proofs.lemmas.Option.{same_Some}
 use Rattle.std.specs.List.{AllByRecursion, list_any}
-use Rattle.ca_law_carried.specs.ca_law_keys.Posts.{life}
+use Rattle.ca_law_keys.specs.Posts.{life}
 use Rattle.ca_base.specs.declared.correspondent.Correspondent.{Correspondent}
 use Rattle.ca_base.specs.declared.limits.TheConstants.{KEPT_ENVELOPES}
 use Rattle.ca_base.specs.declared.lot.Lot.{Lot}
@@ -20,7 +20,7 @@ use Rattle.ca_connection.specs.Moves.{Keeps}
 use Rattle.ca_connection.specs.Moves.Keeps.{none as keeps_none, keep as keeps_one, leave as leaves_one}
 use Rattle.ca_keys.specs.Equal.{queue_eq}
 use Rattle.ca_keys.specs.declared.names.QueueId.{QueueId}
-use Rattle.ca_law_endings.proofs.of_ca_law_world.Sound.SettledLemmas.{queue-path}
+use Rattle.ca_law_world.proofs.Sound.SettledLemmas.{queue-path}
 use Rattle.ca_model.specs.Caused.{makes_access_error, makes_invalid, makes_operational_error}
 use Rattle.ca_model.specs.Past.{Fault, with_at}
 use Rattle.ca_model.specs.machine.Turns.{Packet, reaches_peer}

@@ -9,7 +9,7 @@ use Rattle.ca_law_endings.proofs.MailSentLemmas.{lent-sent}
 use Rattle.ca_law_endings.specs.Agreement.{PathsAgree, peer_in}
 use Rattle.ca_law_endings.specs.Runs.{Comes, Leads}
 use Rattle.ca_law_order.proofs.Polls.PlanLemmas.{created, leads-create, leads-poll}
-use Rattle.ca_law_carried.specs.ca_law_keys.Posts.{life}
+use Rattle.ca_law_keys.specs.Posts.{life}
 use Rattle.ca_base.specs.Configuration.{Configuration}
 use Rattle.ca_base.specs.declared.change.Change.{Change}
 use Rattle.ca_base.specs.declared.change.Change.TheVariants as changes

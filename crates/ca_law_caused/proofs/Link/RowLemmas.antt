@@ -3,7 +3,7 @@ use Rattle.std.proofs.Common.{◌≡◌, ℕ, inl, inr, ◌+◌, ◌-◌, ◌==�
 use Rattle.std.specs.List.{AllByRecursion, list_all, list_any}
 use Rattle.std.specs.Option.{option_map, option_map_or}
 use Rattle.ca_law_carried.proofs.Accesses.QuietLemmas.{all-filter, all-more}
-use Rattle.ca_law_carried.proofs.of_ca_law_keys.Posts.GrantLemmas.{both-true}
+use Rattle.ca_law_keys.proofs.Posts.GrantLemmas.{both-true}
 use Rattle.ca_base.specs.declared.completion.WcOp.TheVariants as operations
 use Rattle.ca_base.specs.declared.completion.WcStatus.TheVariants.{LocalLength, LocalProtection, MemoryManagement, Success}
 use Rattle.ca_base.specs.declared.denied_ask.DeniedAsk.{DeniedAsk}
@@ -28,8 +28,8 @@ use Rattle.ca_keys.specs.declared.access.Ask.{Ask}
 use Rattle.ca_keys.specs.declared.access.Kind.{Kind}
 use Rattle.ca_keys.specs.declared.access.Kind.TheVariants as kinds
 use Rattle.ca_keys.specs.declared.verdict.Verdict.TheVariants as verdicts
-use Rattle.ca_law_endings.proofs.of_ca_law_world.Sound.SettledLemmas.{queue-path, queue-refl}
-use Rattle.ca_law_endings.proofs.of_ca_law_world.Sound.WorldLemmas.{EndingDoes, RowDoes}
+use Rattle.ca_law_world.proofs.Sound.SettledLemmas.{queue-path, queue-refl}
+use Rattle.ca_law_world.proofs.Sound.WorldLemmas.{EndingDoes, RowDoes}
 use Rattle.ca_model.specs.Caused.{makes_access_error, makes_invalid, makes_operational_error}
 use Rattle.ca_model.specs.Packets.{is_response}
 use Rattle.ca_model.specs.Past.{DeniedAccess, Fault, ReceiveFailed}

@@ -25,16 +25,16 @@ use Rattle.ca_base.specs.objects.Window.{Binding, Window, grant_of_binding}
 use Rattle.ca_law_carried.proofs.Carried.RespondEndLemmas.{small-path}
 use Rattle.ca_law_carried.proofs.Carried.SpeltLemmas.{IsSpelt, shortened, spelt-again}
 use Rattle.ca_law_caused.proofs.Link.SpeltLemmas.{read-no-acknowledge}
-use Rattle.ca_law_carried.proofs.of_ca_law_keys.Judged.WholeLemmas.{IsWhole, bytes-count, part-whole, region-whole}
+use Rattle.ca_law_keys.proofs.Judged.WholeLemmas.{IsWhole, bytes-count, part-whole, region-whole}
 use Rattle.ca_keys.specs.Allowed.{covers, denial_under, denials, fits}
 use Rattle.ca_keys.specs.Memory.{places_count}
 use Rattle.ca_keys.specs.Refusals.{first_of}
 use Rattle.ca_keys.specs.declared.access.Ask.{Ask}
 use Rattle.ca_keys.specs.declared.grant.Grant.{Grant}
 use Rattle.ca_keys.specs.declared.names.Slot.{Slot}
-use Rattle.ca_law_endings.proofs.of_ca_law_world.Sound.TurnLemmas.{all-fail}
-use Rattle.ca_law_endings.proofs.of_ca_law_world.Sound.WorldLemmas.{EndingDoes}
-use Rattle.ca_law_carried.specs.ca_law_world.Bindings.{IsBoundWorld, LiesIn}
+use Rattle.ca_law_world.proofs.Sound.TurnLemmas.{all-fail}
+use Rattle.ca_law_world.proofs.Sound.WorldLemmas.{EndingDoes}
+use Rattle.ca_law_world.specs.Bindings.{IsBoundWorld, LiesIn}
 use Rattle.ca_model.specs.Packets.{answers_read, is_last_read_response}
 use Rattle.ca_model.specs.declared.mark.Mark.{Mark}
 use Rattle.ca_model.specs.declared.read_left.ReadLeft.{ReadLeft}

@@ -18,7 +18,7 @@ use Rattle.ca_connection.specs.Link.Response.{Nak as LinkNak}
 use Rattle.ca_connection.specs.Link.NakReason.{ReceiverNotReady, RemoteAccessError as AccessReason}
 use Rattle.ca_keys.specs.Equal.{queue_eq}
 use Rattle.ca_keys.specs.Refusals.{first_of}
-use Rattle.ca_law_endings.proofs.of_ca_law_world.Sound.SettledLemmas.{queue-path}
+use Rattle.ca_law_world.proofs.Sound.SettledLemmas.{queue-path}
 use Rattle.ca_model.specs.Caused.{makes_access_error}
 use Rattle.ca_model.specs.Packets.{answers_read}
 use Rattle.ca_model.specs.Past.{DeniedAccess, Fault}

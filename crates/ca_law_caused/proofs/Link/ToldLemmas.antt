@@ -5,7 +5,7 @@ use Rattle.std.proofs.lemmas.Option.{same_Some}
 use Rattle.std.specs.List.{AllByRecursion}
 use Rattle.std.specs.Option.{option_and_then}
 use Rattle.ca_law_endings.proofs.InnerLemmas.{AreOwn, IsOwnMark}
-use Rattle.ca_law_carried.proofs.of_ca_law_keys.Posts.GrantLemmas.{both-true}
+use Rattle.ca_law_keys.proofs.Posts.GrantLemmas.{both-true}
 use Rattle.ca_base.specs.declared.completion.Completion.{Completion}
 use Rattle.ca_base.specs.declared.refusals.OpRefusal.{OpRefusal}
 use Rattle.ca_law_caused.specs.Causes.{completes_with_cause, has_own_cause}

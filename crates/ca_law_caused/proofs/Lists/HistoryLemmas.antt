@@ -3,13 +3,13 @@ use Rattle.std.proofs.Common.{◌≡◌, ℕ, ◌==◌, Bool, true, false, if◌
 use Rattle.std.specs.List.{AllByRecursion}
 use Rattle.std.specs.Option.{option_and_then, option_map, option_map_or}
 use Rattle.std.specs.Result.{result_ok}
-use Rattle.ca_law_order.proofs.of_ca_law_endings.EventFitLemmas.{first-marks}
-use Rattle.ca_law_order.proofs.of_ca_law_endings.LeadsLemmas.{leads-around, leads-queue, leads-row, comes, leads-unless, leads-weaker}
-use Rattle.ca_law_order.proofs.of_ca_law_endings.MailSentLemmas.{lent-sent}
-use Rattle.ca_law_order.proofs.of_ca_law_endings.PathEventLemmas.{event-agrees, opening-agrees}
-use Rattle.ca_law_order.proofs.of_ca_law_endings.PathVerbLemmas.{call_of}
-use Rattle.ca_law_order.specs.ca_law_endings.Agreement.{PathsAgree, WereSent}
-use Rattle.ca_law_order.specs.ca_law_endings.Runs.{Leads, Comes}
+use Rattle.ca_law_endings.proofs.EventFitLemmas.{first-marks}
+use Rattle.ca_law_endings.proofs.LeadsLemmas.{leads-around, leads-queue, leads-row, comes, leads-unless, leads-weaker}
+use Rattle.ca_law_endings.proofs.MailSentLemmas.{lent-sent}
+use Rattle.ca_law_endings.proofs.PathEventLemmas.{event-agrees, opening-agrees}
+use Rattle.ca_law_endings.proofs.PathVerbLemmas.{call_of}
+use Rattle.ca_law_endings.specs.Agreement.{PathsAgree, WereSent}
+use Rattle.ca_law_endings.specs.Runs.{Leads, Comes}
 use Rattle.ca_law_order.proofs.Lists.EventLemmas.{event-lists-agree, opening-lists-agree}
 use Rattle.ca_law_order.specs.Lists.{ListsAgree}
 use Rattle.ca_law_order.proofs.Polls.OperationLemmas.{leads-operation}
@@ -44,12 +44,12 @@ use Rattle.ca_keys.specs.Numbers.{key_at, queue_of, window_index}
 use Rattle.ca_keys.specs.Refusals.{first_of}
 use Rattle.ca_keys.specs.declared.names.QueueId.{QueueId}
 use Rattle.ca_keys.specs.declared.names.Slot.{Slot}
-use Rattle.ca_law_order.proofs.of_ca_law_parts.Room.EventRoomLemmas.{event-room}
-use Rattle.ca_law_order.proofs.of_ca_law_parts.Room.RoomLemmas.{opening-room}
-use Rattle.ca_law_order.specs.ca_law_parts.Room.{HasRoom}
-use Rattle.ca_law_order.proofs.of_ca_law_world.Sound.SettledLemmas.{queue-refl}
-use Rattle.ca_law_order.proofs.of_ca_law_world.Sound.SoundLemmas.{event-sound, opening-sound}
-use Rattle.ca_law_order.proofs.of_ca_law_world.Sound.WorldLemmas.{IsThere, RowDoes, around_in, is-there, shared_of}
+use Rattle.ca_law_parts.proofs.Room.EventRoomLemmas.{event-room}
+use Rattle.ca_law_parts.proofs.Room.RoomLemmas.{opening-room}
+use Rattle.ca_law_parts.specs.Room.{HasRoom}
+use Rattle.ca_law_world.proofs.Sound.SettledLemmas.{queue-refl}
+use Rattle.ca_law_world.proofs.Sound.SoundLemmas.{event-sound, opening-sound}
+use Rattle.ca_law_world.proofs.Sound.WorldLemmas.{IsThere, RowDoes, around_in, is-there, shared_of}
 use Rattle.ca_model.specs.Entries.{EntryValue}
 use Rattle.ca_model.specs.Packets.{packet_of}
 use Rattle.ca_model.specs.Past.{Past, after_mark, after_marks, at_begin, at_end, envelope_sent, packet_at, after_entry, opening_past, each_mark, each_entry, arrived_at_hand}

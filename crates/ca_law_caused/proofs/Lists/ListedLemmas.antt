@@ -33,8 +33,8 @@ use Rattle.ca_keys.specs.declared.access.Ask.{Ask}
 use Rattle.ca_keys.specs.declared.access.Kind.TheVariants as kinds
 use Rattle.ca_keys.specs.declared.key.Key.{Key}
 use Rattle.ca_keys.specs.declared.names.Slot.{Slot}
-use Rattle.ca_law_order.proofs.of_ca_law_world.Sound.ExpectedLemmas.{valid-goes}
-use Rattle.ca_law_order.proofs.of_ca_law_world.Sound.WorldLemmas.{EndingDoes, RowDoes, IsThere, around_in, shared_of}
+use Rattle.ca_law_world.proofs.Sound.ExpectedLemmas.{valid-goes}
+use Rattle.ca_law_world.proofs.Sound.WorldLemmas.{EndingDoes, RowDoes, IsThere, around_in, shared_of}
 use Rattle.ca_model.specs.Caused.{is_by_piece, list_at, receive_at}
 use Rattle.ca_model.specs.Packets.{begins_send, is_response, is_send, is_send_at}
 use Rattle.ca_model.specs.Past.{Past, after_mark, arrived_at_hand, bytes_before, each_mark, present_incarnation}

@@ -24,7 +24,7 @@ use Rattle.ca_keys.specs.declared.access.Ask.{Ask}
 use Rattle.ca_keys.specs.declared.grant.Grant.{Grant}
 use Rattle.ca_keys.specs.declared.key.Key.{Key}
 use Rattle.ca_keys.specs.declared.names.QueueId.{QueueId}
-use Rattle.ca_law_order.proofs.of_ca_law_world.Sound.WorldLemmas.{EndingDoes, RowDoes}
+use Rattle.ca_law_world.proofs.Sound.WorldLemmas.{EndingDoes, RowDoes}
 use Rattle.ca_model.specs.Caused.{is_denied_list}
 use Rattle.ca_model.specs.Past.{Past, after_mark, each_mark}
 use Rattle.ca_model.specs.declared.mark.Drop1.TheVariants as drops

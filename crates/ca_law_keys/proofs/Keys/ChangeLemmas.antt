@@ -12,9 +12,9 @@ use Rattle.ca_base.specs.Configuration.{Adapter, Configuration}
 use Rattle.ca_base.specs.objects.Region.{Region, grant_of_region}
 use Rattle.ca_base.specs.objects.Slices.{adapter_at, has_domain, has_slot}
 use Rattle.ca_base.specs.objects.Window.{Binding, Window, grant_of_binding}
-use Rattle.ca_law_endings.proofs.of_ca_law_world.Sound.SettledLemmas.{slot-path, slot-refl}
-use Rattle.ca_law_parts.proofs.of_ca_law_world.Windows.BindingLemmas.{AreSameGrants, counted-binding}
-use Rattle.ca_law_parts.specs.ca_law_world.Bindings.{IsBoundWorld, LiesIn, is_bound_in}
+use Rattle.ca_law_world.proofs.Sound.SettledLemmas.{slot-path, slot-refl}
+use Rattle.ca_law_world.proofs.Windows.BindingLemmas.{AreSameGrants, counted-binding}
+use Rattle.ca_law_world.specs.Bindings.{IsBoundWorld, LiesIn, is_bound_in}
 use Rattle.ca_model.specs.Past.{KeySlot, key_slot_eq, region_key_slot, window_key_slot, with_at}
 use Rattle.ca_model.specs.machine.Row.{grant_over, region_under}
 use Rattle.ca_model.specs.machine.Sound.{AreLimited, IsLimitedAdapter}

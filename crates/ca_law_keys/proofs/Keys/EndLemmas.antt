@@ -20,10 +20,10 @@ use Rattle.ca_base.specs.objects.Region.{Region, RegionState, NoRegion, Free, Re
 use Rattle.ca_base.specs.objects.Slices.{names_region, names_window, slot_of_key}
 use Rattle.ca_base.specs.objects.Window.{Binding, Window, grant_of_binding, key_of_window, window_invalidation_refusals, without_binding}
 use Rattle.ca_keys.specs.Refusals.{AllFail}
-use Rattle.ca_law_endings.proofs.of_ca_law_world.Sound.TurnLemmas.{all-fail}
-use Rattle.ca_law_parts.proofs.of_ca_law_world.Windows.BindingLemmas.{AreSameGrants}
-use Rattle.ca_law_parts.proofs.of_ca_law_world.Windows.WindowWorldLemmas.{unbound-grants}
-use Rattle.ca_law_parts.specs.ca_law_world.Bindings.{IsBoundWorld}
+use Rattle.ca_law_world.proofs.Sound.TurnLemmas.{all-fail}
+use Rattle.ca_law_world.proofs.Windows.BindingLemmas.{AreSameGrants}
+use Rattle.ca_law_world.proofs.Windows.WindowWorldLemmas.{unbound-grants}
+use Rattle.ca_law_world.specs.Bindings.{IsBoundWorld}
 use Rattle.ca_model.specs.Past.{KeySlot, key_slot, key_slot_eq, key_slot_of, region_key_slot, window_key_slot, with_at}
 use Rattle.ca_model.specs.machine.Plan.{Update, ◌:=◌}
 use Rattle.ca_model.specs.machine.Row.{region_under}

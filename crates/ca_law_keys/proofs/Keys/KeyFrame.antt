@@ -4,11 +4,11 @@ use Rattle.ca_law_endings.proofs.PathLemmas.{puts-append}
 use Rattle.ca_law_keys.proofs.Keys.SightLemmas.{after_writes}
 use Rattle.ca_law_keys.proofs.Keys.ToldLemmas.{At, Leaves}
 use Rattle.ca_law_keys.specs.InForce.{AgreeOnGrants, KeysAgree}
-use Rattle.ca_law_endings.proofs.of_ca_law_world.Sound.WorldLemmas.{IsThere}
+use Rattle.ca_law_world.proofs.Sound.WorldLemmas.{IsThere}
 use Rattle.ca_base.specs.Configuration.{Configuration}
 use Rattle.ca_base.specs.objects.QueuePair.{QueuePair}
 use Rattle.ca_law_parts.specs.Placed.{IsPlacedWorld}
-use Rattle.ca_law_parts.specs.ca_law_world.Bindings.{IsBoundWorld}
+use Rattle.ca_law_world.specs.Bindings.{IsBoundWorld}
 use Rattle.ca_model.specs.machine.Sound.{AreLimited, IsSoundWorld}
 use Rattle.ca_law_endings.proofs.Footprint.{AreOutside, AreUnheard, Frame, Kind, MarkKind, kind_of, kind_of_mark}
 use Rattle.ca_keys.specs.Equal.{place_eq, slot_eq}

@@ -7,9 +7,9 @@ use Rattle.ca_law_endings.proofs.EventFitLemmas.{first-marks}
 use Rattle.ca_law_endings.proofs.LeadsLemmas.{comes}
 use Rattle.ca_law_endings.specs.Agreement.{HoldsAlong}
 use Rattle.ca_law_endings.specs.Runs.{Comes}
-use Rattle.ca_law_endings.proofs.of_ca_law_world.Sound.SettledLemmas.{slot-path}
-use Rattle.ca_law_endings.proofs.of_ca_law_world.Sound.SoundLemmas.{event-sound, opening-sound}
-use Rattle.ca_law_endings.proofs.of_ca_law_world.Sound.WorldLemmas.{IsThere}
+use Rattle.ca_law_world.proofs.Sound.SettledLemmas.{slot-path}
+use Rattle.ca_law_world.proofs.Sound.SoundLemmas.{event-sound, opening-sound}
+use Rattle.ca_law_world.proofs.Sound.WorldLemmas.{IsThere}
 use Rattle.ca_law_keys.proofs.Keys.ChangeLemmas.{grants-same, region-small, window-small}
 use Rattle.ca_law_keys.proofs.Keys.EndLemmas.{key-ended, region-ended, region-granted, region-kept, window-ended}
 use Rattle.ca_law_keys.proofs.Keys.KeyFrame.{Ends, IsUp, SameKeys, ahead, ahead-of, ends-agreed, hears, keys-frame, leaves-unheard, own-adapter, reads}
@@ -44,7 +44,7 @@ use Rattle.ca_keys.specs.declared.access.Kind.TheVariants as access
 use Rattle.ca_base.specs.declared.limits.TheConstants.{ATOMIC_BYTES}
 use Rattle.ca_model.specs.machine.Arrivals.{packet_ask}
 use Rattle.ca_model.specs.machine.Expected.{with_window_gone}
-use Rattle.ca_law_endings.proofs.of_ca_law_world.Sound.PlanWalks.{binder_updates, deallocated}
+use Rattle.ca_law_world.proofs.Sound.PlanWalks.{binder_updates, deallocated}
 use Rattle.ca_keys.specs.declared.grant.Grant.{Grant}
 use Rattle.ca_keys.specs.declared.names.QueueId.{QueueId}
 use Rattle.ca_keys.specs.declared.names.Slot.{Slot}
@@ -52,9 +52,9 @@ use Rattle.ca_law_parts.proofs.Names.PlacedLemmas.{event-placed, opening-placed}
 use Rattle.ca_law_parts.proofs.Names.PlacedOperationLemmas.{IsNamedTurn, turn-named}
 use Rattle.ca_law_parts.proofs.Names.PlacedTurnLemmas.{placed-here}
 use Rattle.ca_law_parts.specs.Placed.{IsPlacedWorld}
-use Rattle.ca_law_parts.proofs.of_ca_law_world.Windows.WindowEventLemmas.{event-bound, opening-bound}
-use Rattle.ca_law_parts.proofs.of_ca_law_world.Windows.WindowWorldLemmas.{unbound-grants}
-use Rattle.ca_law_parts.specs.ca_law_world.Bindings.{IsBoundWorld}
+use Rattle.ca_law_world.proofs.Windows.WindowEventLemmas.{event-bound, opening-bound}
+use Rattle.ca_law_world.proofs.Windows.WindowWorldLemmas.{unbound-grants}
+use Rattle.ca_law_world.specs.Bindings.{IsBoundWorld}
 use Rattle.ca_model.specs.Entries.{EntryValue}
 use Rattle.ca_model.specs.Past.{KeySlot, Past, after_entry, after_mark, after_marks, at_begin, opening_past, with_at}
 use Rattle.ca_model.specs.declared.event.Event.{Event}

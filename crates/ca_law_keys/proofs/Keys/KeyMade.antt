@@ -27,11 +27,11 @@ use Rattle.ca_keys.specs.declared.key.Key.{Key}
 use Rattle.ca_keys.specs.declared.names.QueueId.{QueueId}
 use Rattle.ca_keys.specs.declared.names.Slot.{Slot}
 use Rattle.ca_keys.specs.declared.rights.Rights.{Rights}
-use Rattle.ca_law_endings.proofs.of_ca_law_world.Sound.TurnLemmas.{all-fail}
-use Rattle.ca_law_endings.proofs.of_ca_law_world.Sound.WorldLemmas.{IsThere}
-use Rattle.ca_law_parts.proofs.of_ca_law_world.Windows.BindingLemmas.{AreSameGrants}
-use Rattle.ca_law_parts.proofs.of_ca_law_world.Windows.WindowBindLemmas.{IsInside, named-region, named-within}
-use Rattle.ca_law_parts.proofs.of_ca_law_world.Windows.WindowWorldLemmas.{unbound-grants}
+use Rattle.ca_law_world.proofs.Sound.TurnLemmas.{all-fail}
+use Rattle.ca_law_world.proofs.Sound.WorldLemmas.{IsThere}
+use Rattle.ca_law_world.proofs.Windows.BindingLemmas.{AreSameGrants}
+use Rattle.ca_law_world.proofs.Windows.WindowBindLemmas.{IsInside, named-region, named-within}
+use Rattle.ca_law_world.proofs.Windows.WindowWorldLemmas.{unbound-grants}
 use Rattle.ca_model.specs.Past.{Past, with_at}
 use Rattle.ca_model.specs.declared.mark.Mark.TheVariants as marks
 use Rattle.ca_model.specs.machine.LocalOperations.{PlacedRegion, bind1_changes, bind1_marks, bind1_refusal, bind2_changes, bind2_marks, bind2_refusal, bind_grant, drawn_by, fast_changes, fast_marks, fast_refusal, former_updates, local_marks, named_slot, named_updates, region_slot, view_named, window_slot}

@@ -1,6 +1,6 @@
 -- Handed on under the names that other crates cite. For proofs only.
 use Rattle.std.proofs.Common.{◌≡◌, subst}
-use Rattle.ca_law_endings.proofs.of_ca_law_world.Sound.WorldLemmas.{IsThere, is-there}
+use Rattle.ca_law_world.proofs.Sound.WorldLemmas.{IsThere, is-there}
 use Rattle.ca_base.specs.Configuration.{Configuration}
 use Rattle.ca_base.specs.objects.QueuePair.{QueuePair, Present}
 use Rattle.ca_keys.specs.declared.names.QueueId.{QueueId}

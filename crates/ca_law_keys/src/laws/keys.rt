@@ -9,7 +9,7 @@ ghost use Rattle.ca_keys.specs.Allowed.{denial_of, grant_for};
 ghost use Rattle.ca_keys.specs.Memory.{ByteMap, bytes_at, runs_for};
 ghost use Rattle.ca_keys.specs.declared.access.Ask.{Ask};
 ghost use Rattle.ca_law_parts.specs.Placed.{IsPlacedWorld};
-ghost use Rattle.ca_law_parts.specs.ca_law_world.Bindings.{IsBoundWorld};
+ghost use Rattle.ca_law_world.specs.Bindings.{IsBoundWorld};
 ghost use Rattle.ca_model.specs.Entries.{EntryValue};
 ghost use Rattle.ca_model.specs.Past.{Past, after_marks, at_begin, opening_past};
 ghost use Rattle.ca_model.specs.declared.event.Event.{Event};

@@ -4,7 +4,7 @@ use Rattle.std.proofs.lemmas.Bool.{and_parts, eqb-true}
 use Rattle.std.proofs.lemmas.Bool.Decides.{nat_tests}
 use Rattle.std.specs.List.{list_any}
 use Rattle.ca_law_endings.specs.Agreement.{PathsAgree}
-use Rattle.ca_law_carried.specs.ca_law_keys.Posts.{AgreeInSlot, PostsAgree, life}
+use Rattle.ca_law_keys.specs.Posts.{AgreeInSlot, PostsAgree, life}
 use Rattle.ca_base.specs.declared.change.Change.{Change}
 use Rattle.ca_base.specs.declared.change.Change.TheVariants as changes
 use Rattle.ca_base.specs.declared.correspondent.Correspondent.{Correspondent}

@@ -10,13 +10,13 @@ use Rattle.ca_law_endings.specs.Indices.{has_its_index}
 use Rattle.ca_law_endings.specs.Runs.{Comes}
 use Rattle.ca_law_carried.proofs.Accesses.EventLemmas.{packets-along}
 use Rattle.ca_law_carried.specs.Asked.{has_its_packet}
-use Rattle.ca_law_carried.proofs.of_ca_law_keys.Posts.PostLaws.{posts-along}
-use Rattle.ca_law_carried.specs.ca_law_keys.Posts.{PostsAgree}
+use Rattle.ca_law_keys.proofs.Posts.PostLaws.{posts-along}
+use Rattle.ca_law_keys.specs.Posts.{PostsAgree}
 use Rattle.ca_base.specs.Configuration.{Configuration}
 use Rattle.ca_base.specs.declared.correspondent.Correspondent.{Correspondent}
 use Rattle.ca_connection.specs.Layout.{Direction}
 use Rattle.ca_connection.specs.Link.{Link}
-use Rattle.ca_law_carried.proofs.of_ca_law_keys.Judged.JudgeEventLemmas.{judged-along}
+use Rattle.ca_law_keys.proofs.Judged.JudgeEventLemmas.{judged-along}
 use Rattle.ca_keys.specs.Memory.{ByteMap}
 use Rattle.ca_law_world.proofs.Sound.SoundLemmas.{event-sound, opening-sound}
 use Rattle.ca_law_world.proofs.Steady.EventLemmas.{event-steady, opening-steady}

@@ -2,7 +2,7 @@
 use Rattle.std.proofs.Common.{◌≡◌, ℕ, ◌+◌, ◌<◌, ◌≤◌, ◌⊎◌, inl, inr, ◌&&◌, ◌==◌, ◌++◌, arith, Bool, true, false, if◌then◌else◌, length, map, List, [], ◌∷◌, Option, None, Some, is_some, slice_get, refl, ap, ap₂, sym, subst, ◌∙◌, true≢false}
 use Rattle.std.proofs.lemmas.List.{append-nil}
 use Rattle.std.specs.Option.{option_map_or}
-use Rattle.ca_law_carried.specs.ca_law_keys.Posts.{PostsAgree}
+use Rattle.ca_law_keys.specs.Posts.{PostsAgree}
 use Rattle.ca_law_endings.specs.Agreement.{PathsAgree}
 use Rattle.ca_base.specs.declared.completion.Completion.{Completion}
 use Rattle.ca_base.specs.declared.correspondent.Correspondent.{Correspondent}
@@ -10,7 +10,7 @@ use Rattle.ca_base.specs.declared.request.SendOp.{SendOp}
 use Rattle.ca_base.specs.declared.request.SendOp.TheVariants as ops
 use Rattle.ca_connection.specs.Layout.{Direction, is_atomic}
 use Rattle.ca_connection.specs.Link.{Link}
-use Rattle.ca_law_carried.proofs.of_ca_law_keys.Judged.JudgeLemmas.{bytes-refl}
+use Rattle.ca_law_keys.proofs.Judged.JudgeLemmas.{bytes-refl}
 use Rattle.ca_keys.specs.Equal.{queue_eq}
 use Rattle.ca_keys.specs.Memory.{little_endian_bytes}
 use Rattle.ca_keys.specs.declared.names.QueueId.{QueueId}

@@ -13,7 +13,7 @@ use Rattle.ca_base.specs.objects.SharedReceives.{SharedReceives, SrqSlot, after_
 use Rattle.ca_keys.specs.Equal.{queue_eq}
 use Rattle.ca_keys.specs.Memory.{memory_after}
 use Rattle.ca_keys.specs.declared.names.QueueId.{QueueId}
-use Rattle.ca_law_endings.proofs.of_ca_law_world.Sound.WorldLemmas.{EndingDoes, RowDoes, around_in, shared_of}
+use Rattle.ca_law_world.proofs.Sound.WorldLemmas.{EndingDoes, RowDoes, around_in, shared_of}
 use Rattle.ca_model.specs.Past.{with_at}
 use Rattle.ca_model.specs.declared.mark.Mark.{Mark}
 use Rattle.ca_model.specs.declared.mark.Mark.TheVariants as marks

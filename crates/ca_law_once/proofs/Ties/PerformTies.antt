@@ -20,7 +20,7 @@ use Rattle.ca_model.specs.machine.Row.{Effects, queue_and_marks, region_under, u
 use Rattle.ca_model.specs.machine.World.{Region_of, World}
 use Rattle.ca_law_endings.proofs.LeadsLemmas.{AreAside, leads-row, unless-aside}
 use Rattle.ca_law_endings.proofs.InnerLemmas.{operation-inner}
-use Rattle.ca_law_endings.proofs.of_ca_law_world.Sound.WorldLemmas.{RowDoes}
+use Rattle.ca_law_world.proofs.Sound.WorldLemmas.{RowDoes}
 use Rattle.ca_model.specs.machine.Expected.{with_window_gone}
 use Rattle.ca_model.specs.machine.Invariants.{IsQueue}
 use Rattle.ca_model.specs.machine.Requester.{Performs, turn_of}

@@ -13,7 +13,7 @@ use Rattle.ca_connection.specs.Moves.Move.{other_request, other_response}
 use Rattle.ca_connection.specs.Moves.Reached.{move}
 use Rattle.ca_keys.specs.Equal.{queue_eq}
 use Rattle.ca_keys.specs.declared.names.QueueId.{QueueId}
-use Rattle.ca_law_endings.proofs.of_ca_law_world.Sound.SettledLemmas.{queue-path, queue-refl}
+use Rattle.ca_law_world.proofs.Sound.SettledLemmas.{queue-path, queue-refl}
 use Rattle.ca_model.specs.Past.{with_at}
 use Rattle.ca_model.specs.declared.mark.Mark.{Mark}
 use Rattle.ca_model.specs.machine.Invariants.{is_sending}

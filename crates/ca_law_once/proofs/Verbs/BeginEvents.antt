@@ -1,9 +1,9 @@
 -- Every event leaves queue pairs that begin empty: the turns, and all events together. For proofs only.
 use Rattle.std.proofs.Common.{◌≡◌, ℕ, Bool, true, false, if◌then◌else◌, List, [], Option, None, Some, is_some, refl, ap, sym, subst, ◌∙◌, true≢false}
-use Rattle.ca_law_order.proofs.of_ca_law_endings.InnerLemmas.{IsInner, arrival-inner, packet-inner, respond-inner, timeout-inner}
-use Rattle.ca_law_order.proofs.of_ca_law_endings.LeadsLemmas.{comes}
-use Rattle.ca_law_order.specs.ca_law_endings.Agreement.{peer_in}
-use Rattle.ca_law_order.specs.ca_law_endings.Runs.{Comes, Leads}
+use Rattle.ca_law_endings.proofs.InnerLemmas.{IsInner, arrival-inner, packet-inner, respond-inner, timeout-inner}
+use Rattle.ca_law_endings.proofs.LeadsLemmas.{comes}
+use Rattle.ca_law_endings.specs.Agreement.{peer_in}
+use Rattle.ca_law_endings.specs.Runs.{Comes, Leads}
 use Rattle.ca_base.specs.Configuration.{Configuration}
 use Rattle.ca_base.specs.declared.correspondent.Correspondent.{Correspondent}
 use Rattle.ca_base.specs.declared.lot.Lot.{Lot}
@@ -14,8 +14,8 @@ use Rattle.ca_keys.specs.Equal.{queue_eq}
 use Rattle.ca_keys.specs.Memory.{ByteMap}
 use Rattle.ca_keys.specs.Refusals.{first_of}
 use Rattle.ca_keys.specs.declared.names.QueueId.{QueueId}
-use Rattle.ca_law_order.proofs.of_ca_law_world.Sound.SettledLemmas.{queue-path}
-use Rattle.ca_law_order.proofs.of_ca_law_world.Sound.TurnLemmas.{sending-parts, sends-parts, turn_from}
+use Rattle.ca_law_world.proofs.Sound.SettledLemmas.{queue-path}
+use Rattle.ca_law_world.proofs.Sound.TurnLemmas.{sending-parts, sends-parts, turn_from}
 use Rattle.ca_base.specs.declared.step.Reason.{Reason}
 use Rattle.ca_model.specs.Past.{with_at}
 use Rattle.ca_model.specs.declared.event.Event.{Event}

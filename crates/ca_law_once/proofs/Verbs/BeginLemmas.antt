@@ -3,10 +3,10 @@ use Rattle.std.proofs.Common.{◌≡◌, ℕ, suc, Bool, true, false, if◌then�
 use Rattle.std.specs.Option.{option_map}
 use Rattle.std.proofs.Math.Seq.{drop-nil}
 use Rattle.std.proofs.lemmas.Bool.{not-false}
-use Rattle.ca_law_order.proofs.of_ca_law_endings.InnerLemmas.{IsInner, arrival-inner}
-use Rattle.ca_law_order.proofs.of_ca_law_endings.LeadsLemmas.{leads-weaker}
-use Rattle.ca_law_order.specs.ca_law_endings.Agreement.{peer_in}
-use Rattle.ca_law_order.specs.ca_law_endings.Runs.{Leads}
+use Rattle.ca_law_endings.proofs.InnerLemmas.{IsInner, arrival-inner}
+use Rattle.ca_law_endings.proofs.LeadsLemmas.{leads-weaker}
+use Rattle.ca_law_endings.specs.Agreement.{peer_in}
+use Rattle.ca_law_endings.specs.Runs.{Leads}
 use Rattle.ca_law_order.proofs.Polls.PlanLemmas.{created, leads-create, leads-poll}
 use Rattle.ca_law_order.proofs.Polls.PostingLemmas.{Refuses}
 use Rattle.ca_base.specs.Configuration.{Configuration}
@@ -28,7 +28,7 @@ use Rattle.ca_keys.specs.Equal.{queue_eq}
 use Rattle.ca_keys.specs.Numbers.{queue_of}
 use Rattle.ca_keys.specs.declared.names.QueueId.{QueueId}
 use Rattle.ca_keys.specs.declared.names.Slot.{Slot}
-use Rattle.ca_law_order.proofs.of_ca_law_world.Sound.SettledLemmas.{queue-path}
+use Rattle.ca_law_world.proofs.Sound.SettledLemmas.{queue-path}
 use Rattle.ca_model.specs.Past.{with_at}
 use Rattle.ca_model.specs.declared.mark.Mark.{Mark}
 use Rattle.ca_model.specs.declared.verb.Verb.{Verb}

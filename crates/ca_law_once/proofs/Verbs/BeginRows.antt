@@ -9,7 +9,7 @@ use Rattle.ca_base.specs.objects.QueuePair.{QueuePair}
 use Rattle.ca_base.specs.objects.SharedReceives.{SharedReceives}
 use Rattle.ca_base.specs.objects.WorkQueue.{WorkQueue}
 use Rattle.ca_keys.specs.Refusals.{AllFail, first_of}
-use Rattle.ca_law_order.proofs.of_ca_law_world.Sound.TurnLemmas.{all-fail}
+use Rattle.ca_law_world.proofs.Sound.TurnLemmas.{all-fail}
 use Rattle.ca_model.specs.Packets.{is_response}
 use Rattle.ca_model.specs.declared.mark.Drop1.{Drop1}
 use Rattle.ca_model.specs.declared.mark.Drop1.TheVariants as drops

@@ -1,8 +1,8 @@
 -- Every event keeps a world tied, where its marks agree with the direction. For proofs only.
 use Rattle.std.proofs.Common.{◌≡◌, ℕ, Bool, true, false, if◌then◌else◌, List, [], take, length, Option, None, Some, refl, ap, sym, subst, ◌∙◌}
-use Rattle.ca_law_order.proofs.of_ca_law_endings.InnerLemmas.{IsInner, arrival-inner}
-use Rattle.ca_law_order.proofs.of_ca_law_endings.LeadsLemmas.{comes}
-use Rattle.ca_law_order.specs.ca_law_endings.Runs.{Comes, Leads}
+use Rattle.ca_law_endings.proofs.InnerLemmas.{IsInner, arrival-inner}
+use Rattle.ca_law_endings.proofs.LeadsLemmas.{comes}
+use Rattle.ca_law_endings.specs.Runs.{Comes, Leads}
 use Rattle.ca_law_order.proofs.Polls.PlanLemmas.{leads-poll}
 use Rattle.ca_law_order.proofs.Polls.PostingLemmas.{Refuses}
 use Rattle.ca_base.specs.Configuration.{Configuration}
@@ -20,7 +20,7 @@ use Rattle.ca_base.specs.declared.request.SendRequest.{SendRequest}
 use Rattle.ca_base.specs.objects.CompletionQueue.{CompletionQueue, after_polls}
 use Rattle.ca_keys.specs.declared.names.QueueId.{QueueId}
 use Rattle.ca_keys.specs.declared.names.Slot.{Slot}
-use Rattle.ca_law_order.proofs.of_ca_law_world.Sound.SettledLemmas.{queue-path}
+use Rattle.ca_law_world.proofs.Sound.SettledLemmas.{queue-path}
 use Rattle.ca_model.specs.declared.answer.Refusal.TheVariants.{NoSuch}
 use Rattle.ca_model.specs.declared.event.Event.{Event}
 use Rattle.ca_model.specs.declared.event.Event.TheVariants as events

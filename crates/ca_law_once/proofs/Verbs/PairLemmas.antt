@@ -8,7 +8,7 @@ use Rattle.ca_connection.specs.Layout.{Direction, first}
 use Rattle.ca_connection.specs.Link.{Link, RequestPacket, Requester, Responder, Response}
 use Rattle.ca_keys.specs.Equal.{queue_eq}
 use Rattle.ca_keys.specs.declared.names.QueueId.{QueueId}
-use Rattle.ca_law_order.proofs.of_ca_law_world.Sound.SettledLemmas.{queue-path}
+use Rattle.ca_law_world.proofs.Sound.SettledLemmas.{queue-path}
 use Rattle.ca_model.specs.machine.World.{World}
 use Rattle.ca_law_once.proofs.Ties.DeliverLemmas.{before-after, over-after, paired-after, present-same}
 use Rattle.ca_law_once.proofs.Ties.DeliverTies.{stands-changed, stands-still}

@@ -14,8 +14,8 @@ use Rattle.ca_base.specs.objects.WorkQueue.{WorkQueue, after_retire, items_from}
 use Rattle.ca_keys.specs.Equal.{queue_eq}
 use Rattle.ca_keys.specs.declared.names.QueueId.{QueueId}
 use Rattle.ca_keys.specs.declared.names.Slot.{Slot}
-use Rattle.ca_law_order.proofs.of_ca_law_world.Sound.PollLemmas.{all-finished, all-taken}
-use Rattle.ca_law_order.proofs.of_ca_law_world.Sound.SettledLemmas.{queue-path}
+use Rattle.ca_law_world.proofs.Sound.PollLemmas.{all-finished, all-taken}
+use Rattle.ca_law_world.proofs.Sound.SettledLemmas.{queue-path}
 use Rattle.ca_model.specs.machine.CompletionVerbs.{after_poll, slot_after_poll}
 use Rattle.ca_model.specs.machine.Plan.{Update, put_all}
 use Rattle.ca_model.specs.machine.Sound.{IsFinished, IsSettled, IsSoundWorld}

@@ -1,8 +1,8 @@
 -- Walks over the plans of turns: which queue pair goes on, and which mailbox gets a packet. For proofs only.
 use Rattle.std.proofs.Common.{◌≡◌, ◌&&◌, Bool, true, false, List, [], ◌∷◌, ◌++◌, Option, None, Some, refl, sym, subst, rules}
 use Rattle.std.proofs.lemmas.Bool.{not-false}
-use Rattle.ca_law_order.proofs.of_ca_law_endings.LeadsLemmas.{AreAside, leads-around, leads-queue, leads-unless}
-use Rattle.ca_law_order.specs.ca_law_endings.Runs.{Leads}
+use Rattle.ca_law_endings.proofs.LeadsLemmas.{AreAside, leads-around, leads-queue, leads-unless}
+use Rattle.ca_law_endings.specs.Runs.{Leads}
 use Rattle.ca_law_order.proofs.Polls.TurnLemmas.{leads-tests}
 use Rattle.ca_base.specs.Configuration.{Configuration}
 use Rattle.ca_base.specs.declared.correspondent.Correspondent.{Correspondent}
@@ -11,7 +11,7 @@ use Rattle.ca_base.specs.declared.step.Reason.TheVariants as reasons
 use Rattle.ca_base.specs.objects.QueuePair.{QueuePair, QueueSlot, Present}
 use Rattle.ca_keys.specs.Equal.{queue_eq}
 use Rattle.ca_keys.specs.declared.names.QueueId.{QueueId}
-use Rattle.ca_law_order.proofs.of_ca_law_world.Sound.WorldLemmas.{around_in, shared_of}
+use Rattle.ca_law_world.proofs.Sound.WorldLemmas.{around_in, shared_of}
 use Rattle.ca_model.specs.Past.{with_at}
 use Rattle.ca_model.specs.declared.mark.Mark.{Mark}
 use Rattle.ca_model.specs.machine.Around.{With_around, updates_of}

@@ -1,7 +1,7 @@
 -- Each verb that changes queue pairs or their mailboxes keeps a world tied, where its answer agrees. For proofs only.
 use Rattle.std.proofs.Common.{◌≡◌, ℕ, zero, suc, ◌+◌, ◌-◌, ◌^◌, ◌≤◌, Bool, true, false, if◌then◌else◌, List, [], ◌∷◌, ◌++◌, drop, length, map, Option, None, Some, is_some, refl, ap, sym, subst, ◌∙◌, true≢false, arith}
 use Rattle.std.proofs.lemmas.List.{drop-append-le, length-drop}
-use Rattle.ca_law_order.specs.ca_law_endings.Agreement.{peer_in}
+use Rattle.ca_law_endings.specs.Agreement.{peer_in}
 use Rattle.ca_base.specs.declared.change.Change as state_change
 use Rattle.ca_base.specs.declared.change.Change.TheVariants as changes
 use Rattle.ca_base.specs.declared.change.State.{State}

@@ -2,8 +2,8 @@
 use Rattle.std.proofs.Common.{◌≡◌, ℕ, suc, ◌-◌, ◌==◌, nat_lt, true, List, [], ◌∷◌, ◌++◌, Option, None, Some, refl, ap, sym, subst, ◌∙◌, rules}
 use Rattle.std.proofs.lemmas.Bool.{not-false}
 use Rattle.std.specs.Option.{option_map}
-use Rattle.ca_law_order.proofs.of_ca_law_endings.LeadsLemmas.{AreAside, leads-around, leads-row, leads-unless}
-use Rattle.ca_law_order.specs.ca_law_endings.Runs.{Leads}
+use Rattle.ca_law_endings.proofs.LeadsLemmas.{AreAside, leads-around, leads-row, leads-unless}
+use Rattle.ca_law_endings.specs.Runs.{Leads}
 use Rattle.ca_law_order.proofs.Polls.PostingLemmas.{Refuses, leads-present}
 use Rattle.ca_law_order.proofs.Polls.TurnLemmas.{leads-tests}
 use Rattle.ca_base.specs.Configuration.{Configuration}
@@ -28,7 +28,7 @@ use Rattle.ca_keys.specs.Refusals.{AllFail}
 use Rattle.ca_keys.specs.Numbers.{key_at, queue_of, window_index}
 use Rattle.ca_keys.specs.declared.names.QueueId.{QueueId}
 use Rattle.ca_keys.specs.declared.names.Slot.{Slot}
-use Rattle.ca_law_order.proofs.of_ca_law_world.Sound.WorldLemmas.{IsThere, around_in, shared_of}
+use Rattle.ca_law_world.proofs.Sound.WorldLemmas.{IsThere, around_in, shared_of}
 use Rattle.ca_model.specs.Past.{with_at}
 use Rattle.ca_model.specs.declared.answer.Answer.TheVariants as answers
 use Rattle.ca_model.specs.declared.answer.Refusal.TheVariants.{NoSuch, WindowsBound}

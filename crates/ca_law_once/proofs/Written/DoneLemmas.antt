@@ -33,7 +33,7 @@ use Rattle.ca_law_once.proofs.Once.ShapeLemmas.{Meets}
 use Rattle.ca_law_once.proofs.Once.SuccessLemmas.{Midst, among-append, append-assoc, append-length, midst-after}
 use Rattle.ca_law_once.proofs.Once.VerbLemmas.{SameHand, verb-hand}
 use Rattle.ca_law_once.specs.Connections.{work_posted}
-use Rattle.ca_law_carried.specs.ca_law_keys.Posts.{PostsAgree}
+use Rattle.ca_law_keys.specs.Posts.{PostsAgree}
 use Rattle.ca_law_once.specs.Success.{AreFound, IsSuccess, SuccessIsFound}
 use Rattle.ca_law_once.specs.Sides.{work_of}
 use Rattle.ca_law_once.specs.Agrees.{IsInLife}

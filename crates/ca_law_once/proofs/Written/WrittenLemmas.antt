@@ -6,7 +6,7 @@ use Rattle.std.proofs.lemmas.List.Sums.{sum_by-cons}
 use Rattle.std.specs.List.{AllByRecursion, list_all}
 use Rattle.std.specs.Option.{option_map_or}
 use Rattle.std.specs.Str.{bytes_eq}
-use Rattle.ca_law_carried.proofs.of_ca_law_keys.Judged.JudgeLemmas.{bytes-refl}
+use Rattle.ca_law_keys.proofs.Judged.JudgeLemmas.{bytes-refl}
 use Rattle.ca_base.specs.Configuration.{Configuration}
 use Rattle.ca_base.specs.declared.correspondent.Correspondent.{Correspondent}
 use Rattle.ca_base.specs.declared.limits.TheConstants.{MAX_MESSAGE_BYTES, MAX_MESSAGE_PACKETS, MIN_PATH_MTU}

@@ -1,4 +1,4 @@
-ghost use Rattle.ca_law_order.specs.ca_law_endings.Runs.{Comes};
+ghost use Rattle.ca_law_endings.specs.Runs.{Comes};
 ghost use Rattle.ca_base.specs.Configuration.{Configuration};
 ghost use Rattle.ca_base.specs.declared.correspondent.Correspondent.{Correspondent};
 ghost use Rattle.ca_connection.specs.Layout.{Direction};

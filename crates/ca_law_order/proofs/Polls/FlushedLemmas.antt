@@ -22,7 +22,7 @@ use Rattle.ca_base.specs.objects.SharedReceives.{SharedReceives}
 use Rattle.ca_base.specs.objects.StateTable.{is_among}
 use Rattle.ca_base.specs.declared.limits.TheConstants.{MAX_DUPLICATES, MAX_RETRY}
 use Rattle.ca_keys.specs.Refusals.{first_of}
-use Rattle.ca_law_endings.proofs.of_ca_law_world.Sound.WorldLemmas.{RowDoes}
+use Rattle.ca_law_world.proofs.Sound.WorldLemmas.{RowDoes}
 use Rattle.ca_model.specs.Packets.{is_response}
 use Rattle.ca_model.specs.Requests.{list_length, segments}
 use Rattle.ca_model.specs.declared.mark.Drop1.{Drop1}
@@ -66,8 +66,8 @@ use Rattle.ca_base.specs.objects.LocalRequest.{LocalMarks}
 use Rattle.ca_base.specs.objects.QueuePair.{with_all_flushed}
 use Rattle.ca_base.specs.objects.StateTable.{state_eq}
 use Rattle.ca_base.specs.objects.WorkQueue.{WorkQueue, next_place, with_all_taken}
-use Rattle.ca_law_endings.proofs.of_ca_law_world.Sound.TurnLemmas.{all-fail}
-use Rattle.ca_law_endings.proofs.of_ca_law_world.Sound.WorldLemmas.{EndingDoes}
+use Rattle.ca_law_world.proofs.Sound.TurnLemmas.{all-fail}
+use Rattle.ca_law_world.proofs.Sound.WorldLemmas.{EndingDoes}
 use Rattle.ca_model.specs.machine.LocalOperations.{operation_effects}
 use Rattle.ca_model.specs.machine.Requester.{denied_list_effects, is_outstanding, is_too_much, packet_asks, packet_row, sent_packet}
 

@@ -29,8 +29,8 @@ use Rattle.ca_base.specs.objects.LocalRequest.{LocalMarks}
 use Rattle.ca_base.specs.objects.SharedReceives.{SharedReceives}
 use Rattle.ca_keys.specs.Numbers.{is_window_key}
 use Rattle.ca_keys.specs.Refusals.{first_of}
-use Rattle.ca_law_endings.proofs.of_ca_law_world.Sound.TakenLemmas.{none-takes, operation-takes}
-use Rattle.ca_law_endings.proofs.of_ca_law_world.Sound.TurnLemmas.{nothing-good, operation-good, sending-parts, turn_from}
+use Rattle.ca_law_world.proofs.Sound.TakenLemmas.{none-takes, operation-takes}
+use Rattle.ca_law_world.proofs.Sound.TurnLemmas.{nothing-good, operation-good, sending-parts, turn_from}
 use Rattle.ca_model.specs.machine.Invariants.{IsQueue}
 use Rattle.ca_model.specs.machine.Requester.{Performs, RequestTurn, next_request, turn_of, turn_refusals}
 

@@ -36,11 +36,11 @@ use Rattle.ca_keys.specs.Equal.{bool_eq, key_eq, queue_eq, slot_eq}
 use Rattle.ca_keys.specs.Numbers.{queue_of}
 use Rattle.ca_keys.specs.declared.names.QueueId.{QueueId}
 use Rattle.ca_keys.specs.declared.names.Slot.{Slot}
-use Rattle.ca_law_endings.proofs.of_ca_law_world.Sound.GoodLemmas.{finished-later}
-use Rattle.ca_law_endings.proofs.of_ca_law_world.Sound.PollLemmas.{all-finished, all-taken}
-use Rattle.ca_law_endings.proofs.of_ca_law_world.Sound.SettledLemmas.{all-map, queue-path, queue-refl, slot-path}
-use Rattle.ca_law_endings.proofs.of_ca_law_world.Sound.VerbLemmas.{IsPolled, polled, retired-next}
-use Rattle.ca_law_endings.proofs.of_ca_law_world.Sound.WorldLemmas.{IsThere, around_in, is-there, shared_of}
+use Rattle.ca_law_world.proofs.Sound.GoodLemmas.{finished-later}
+use Rattle.ca_law_world.proofs.Sound.PollLemmas.{all-finished, all-taken}
+use Rattle.ca_law_world.proofs.Sound.SettledLemmas.{all-map, queue-path, queue-refl, slot-path}
+use Rattle.ca_law_world.proofs.Sound.VerbLemmas.{IsPolled, polled, retired-next}
+use Rattle.ca_law_world.proofs.Sound.WorldLemmas.{IsThere, around_in, is-there, shared_of}
 use Rattle.ca_model.specs.Past.{Past, after_change, at_begin, with_at}
 use Rattle.ca_model.specs.Requests.{list_of}
 use Rattle.ca_model.specs.declared.answer.Answer.TheVariants as answers

@@ -36,12 +36,12 @@ use Rattle.ca_keys.specs.Numbers.{key_at, queue_of, window_index}
 use Rattle.ca_keys.specs.declared.key.Key.{Key}
 use Rattle.ca_keys.specs.declared.names.QueueId.{QueueId}
 use Rattle.ca_keys.specs.declared.names.Slot.{Slot}
-use Rattle.ca_law_endings.proofs.of_ca_law_world.Sound.GoodLemmas.{IsLater, error-later, flush-settled, later-on, silent-later, taken-same}
-use Rattle.ca_law_endings.proofs.of_ca_law_world.Sound.OrderLemmas.{completions-append, order-still, silent-order}
-use Rattle.ca_law_endings.proofs.of_ca_law_world.Sound.SettledLemmas.{append-all}
-use Rattle.ca_law_endings.proofs.of_ca_law_world.Sound.TakenLemmas.{none-takes}
-use Rattle.ca_law_endings.proofs.of_ca_law_world.Sound.VerbLemmas.{IsFlushed, flushed, posted-receive, posted-send, receive-later, send-later}
-use Rattle.ca_law_endings.proofs.of_ca_law_world.Sound.WorldLemmas.{IsThere, around_in, is-there, shared_of}
+use Rattle.ca_law_world.proofs.Sound.GoodLemmas.{IsLater, error-later, flush-settled, later-on, silent-later, taken-same}
+use Rattle.ca_law_world.proofs.Sound.OrderLemmas.{completions-append, order-still, silent-order}
+use Rattle.ca_law_world.proofs.Sound.SettledLemmas.{append-all}
+use Rattle.ca_law_world.proofs.Sound.TakenLemmas.{none-takes}
+use Rattle.ca_law_world.proofs.Sound.VerbLemmas.{IsFlushed, flushed, posted-receive, posted-send, receive-later, send-later}
+use Rattle.ca_law_world.proofs.Sound.WorldLemmas.{IsThere, around_in, is-there, shared_of}
 use Rattle.ca_model.specs.Past.{with_at}
 use Rattle.ca_model.specs.Requests.{list_length, list_of}
 use Rattle.ca_model.specs.declared.answer.Answer.{Answer}

@@ -16,9 +16,9 @@ use Rattle.ca_base.specs.objects.QueuePair.{QueuePair, recv_cq_of, send_cq_of}
 use Rattle.ca_keys.specs.Equal.{slot_eq}
 use Rattle.ca_keys.specs.declared.names.QueueId.{QueueId}
 use Rattle.ca_keys.specs.declared.names.Slot.{Slot}
-use Rattle.ca_law_endings.proofs.of_ca_law_world.Sound.GoodLemmas.{AreSettledMarks, IsSettledMark}
-use Rattle.ca_law_endings.proofs.of_ca_law_world.Sound.OrderLemmas.{completions-append}
-use Rattle.ca_law_endings.proofs.of_ca_law_world.Sound.SettledLemmas.{domain-refl, slot-path}
+use Rattle.ca_law_world.proofs.Sound.GoodLemmas.{AreSettledMarks, IsSettledMark}
+use Rattle.ca_law_world.proofs.Sound.OrderLemmas.{completions-append}
+use Rattle.ca_law_world.proofs.Sound.SettledLemmas.{domain-refl, slot-path}
 use Rattle.ca_model.specs.Past.{with_at}
 use Rattle.ca_model.specs.declared.mark.Mark.{Mark}
 use Rattle.ca_model.specs.declared.mark.Mark.TheVariants as marks

@@ -5,9 +5,9 @@ use Rattle.ca_law_order.proofs.Polls.FlushedLemmas.{Ends}
 use Rattle.ca_law_order.specs.Polls.{IsFlushedInError}
 use Rattle.ca_base.specs.objects.QueuePair.{QueuePair}
 use Rattle.ca_base.specs.objects.SharedReceives.{SharedReceives}
-use Rattle.ca_law_endings.proofs.of_ca_law_world.Sound.GoodLemmas.{IsGood}
-use Rattle.ca_law_endings.proofs.of_ca_law_world.Sound.TakenLemmas.{none-takes}
-use Rattle.ca_law_endings.proofs.of_ca_law_world.Sound.WorldLemmas.{EndingDoes, RowDoes}
+use Rattle.ca_law_world.proofs.Sound.GoodLemmas.{IsGood}
+use Rattle.ca_law_world.proofs.Sound.TakenLemmas.{none-takes}
+use Rattle.ca_law_world.proofs.Sound.WorldLemmas.{EndingDoes, RowDoes}
 use Rattle.ca_model.specs.machine.Places.{TakesInOrder}
 use Rattle.ca_model.specs.machine.Row.{Does, Effects, Ending, NotPossible, Row}
 

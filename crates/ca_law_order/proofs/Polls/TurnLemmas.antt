@@ -25,12 +25,12 @@ use Rattle.ca_keys.specs.Memory.{memory_after}
 use Rattle.ca_keys.specs.Refusals.{AllFail, first_of}
 use Rattle.ca_keys.specs.declared.names.QueueId.{QueueId}
 use Rattle.ca_keys.specs.declared.names.Slot.{Slot}
-use Rattle.ca_law_endings.proofs.of_ca_law_world.Sound.GoodLemmas.{IsLater}
-use Rattle.ca_law_endings.proofs.of_ca_law_world.Sound.RespondLemmas.{arrival-good, respond-good}
-use Rattle.ca_law_endings.proofs.of_ca_law_world.Sound.SettledLemmas.{slot-path}
-use Rattle.ca_law_endings.proofs.of_ca_law_world.Sound.TakenLemmas.{arrival-takes, none-takes, packet-takes, respond-takes, timeout-takes, wake-takes}
-use Rattle.ca_law_endings.proofs.of_ca_law_world.Sound.TurnLemmas.{packet-good, sending-parts, sends-parts, timeout-good, wake-good}
-use Rattle.ca_law_endings.proofs.of_ca_law_world.Sound.WorldLemmas.{IsSoundShared, IsThere, RowDoes, around_in, is-there, row-does, shared_of, sound-shared}
+use Rattle.ca_law_world.proofs.Sound.GoodLemmas.{IsLater}
+use Rattle.ca_law_world.proofs.Sound.RespondLemmas.{arrival-good, respond-good}
+use Rattle.ca_law_world.proofs.Sound.SettledLemmas.{slot-path}
+use Rattle.ca_law_world.proofs.Sound.TakenLemmas.{arrival-takes, none-takes, packet-takes, respond-takes, timeout-takes, wake-takes}
+use Rattle.ca_law_world.proofs.Sound.TurnLemmas.{packet-good, sending-parts, sends-parts, timeout-good, wake-good}
+use Rattle.ca_law_world.proofs.Sound.WorldLemmas.{IsSoundShared, IsThere, RowDoes, around_in, is-there, row-does, shared_of, sound-shared}
 use Rattle.ca_model.specs.Past.{with_at}
 use Rattle.ca_model.specs.declared.mark.Mark.{Mark}
 use Rattle.ca_model.specs.declared.mark.Mark.TheVariants as marks

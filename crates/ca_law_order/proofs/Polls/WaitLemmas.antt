@@ -15,7 +15,7 @@ use Rattle.ca_base.specs.objects.QueuePair.{QueuePair, Present}
 use Rattle.ca_keys.specs.Equal.{queue_eq, slot_eq}
 use Rattle.ca_keys.specs.declared.names.QueueId.{QueueId}
 use Rattle.ca_keys.specs.declared.names.Slot.{Slot}
-use Rattle.ca_law_endings.proofs.of_ca_law_world.Sound.SettledLemmas.{queue-path, slot-path}
+use Rattle.ca_law_world.proofs.Sound.SettledLemmas.{queue-path, slot-path}
 use Rattle.ca_model.specs.Past.{Past, after_mark, after_marks, at_begin, each_mark, with_at}
 use Rattle.ca_model.specs.declared.event.Event.{Event}
 use Rattle.ca_model.specs.declared.mark.Mark.{Mark}

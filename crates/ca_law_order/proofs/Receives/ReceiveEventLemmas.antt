@@ -17,7 +17,7 @@ use Rattle.ca_law_parts.proofs.Room.RoomLemmas.{opening-room}
 use Rattle.ca_law_parts.specs.Room.{HasRoom}
 use Rattle.ca_base.specs.Configuration.{Configuration}
 use Rattle.ca_keys.specs.Memory.{ByteMap}
-use Rattle.ca_law_parts.proofs.of_ca_law_world.Sound.SoundLemmas.{event-sound, opening-sound}
+use Rattle.ca_law_world.proofs.Sound.SoundLemmas.{event-sound, opening-sound}
 use Rattle.ca_model.specs.Entries.{EntryValue}
 use Rattle.ca_model.specs.Past.{Past, after_entry, after_marks, at_begin, each_entry, opening_past}
 use Rattle.ca_model.specs.declared.answer.Refusal.TheVariants.{NoSuch}

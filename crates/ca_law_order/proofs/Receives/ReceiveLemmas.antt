@@ -25,7 +25,7 @@ use Rattle.ca_keys.specs.declared.names.Slot.{Slot}
 use Rattle.ca_law_parts.proofs.Room.RoomLemmas.{shared-used}
 use Rattle.ca_law_parts.proofs.Room.RoomLists.{ascend-lower}
 use Rattle.ca_law_parts.specs.Room.{HasRoom}
-use Rattle.ca_law_parts.proofs.of_ca_law_world.Sound.SettledLemmas.{queue-path, queue-refl, slot-refl}
+use Rattle.ca_law_world.proofs.Sound.SettledLemmas.{queue-path, queue-refl, slot-refl}
 use Rattle.ca_model.specs.Ordered.{place_behind}
 use Rattle.ca_model.specs.Past.{Past, after_mark, after_marks, at_begin, correspondent_eq, each_mark, present_incarnation, with_at}
 use Rattle.ca_model.specs.declared.event.Event.{Event}

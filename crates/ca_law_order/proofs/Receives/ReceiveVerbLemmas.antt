@@ -32,8 +32,8 @@ use Rattle.ca_keys.specs.declared.names.QueueId.{QueueId}
 use Rattle.ca_keys.specs.declared.names.Slot.{Slot}
 use Rattle.ca_law_parts.proofs.Room.RoomLemmas.{shared-used}
 use Rattle.ca_law_parts.specs.Room.{HasRoom}
-use Rattle.ca_law_parts.proofs.of_ca_law_world.Sound.SettledLemmas.{queue-path, slot-path}
-use Rattle.ca_law_parts.proofs.of_ca_law_world.Sound.WorldLemmas.{around_in, is-there, shared_of}
+use Rattle.ca_law_world.proofs.Sound.SettledLemmas.{queue-path, slot-path}
+use Rattle.ca_law_world.proofs.Sound.WorldLemmas.{around_in, is-there, shared_of}
 use Rattle.ca_model.specs.Ordered.{place_behind}
 use Rattle.ca_model.specs.Past.{Past, after_change, at_begin, with_at}
 use Rattle.ca_model.specs.Requests.{list_length, list_of}

@@ -16,7 +16,7 @@ use Rattle.ca_base.specs.declared.correspondent.Correspondent.{Correspondent}
 use Rattle.ca_base.specs.objects.QueuePair.{QueuePair, QueueSlot, Present}
 use Rattle.ca_keys.specs.Equal.{queue_eq}
 use Rattle.ca_keys.specs.declared.names.QueueId.{QueueId}
-use Rattle.ca_law_keys.proofs.of_ca_law_world.Sound.SettledLemmas.{queue-path}
+use Rattle.ca_law_world.proofs.Sound.SettledLemmas.{queue-path}
 use Rattle.ca_model.specs.Ordered.{are_unsignalled, is_completion_of, is_send_in_order, place_behind}
 use Rattle.ca_model.specs.Past.{Past, Posted, after_mark, after_marks, correspondent_eq, each_mark, present_incarnation, with_at}
 use Rattle.ca_model.specs.declared.mark.Mark.{Mark}

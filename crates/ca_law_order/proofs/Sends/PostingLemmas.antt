@@ -5,10 +5,10 @@ use Rattle.std.proofs.lemmas.Bool.{ltb-false}
 use Rattle.std.proofs.lemmas.Option.{same_Some, slice_get_within}
 use Rattle.std.proofs.lemmas.List.{length-append}
 use Rattle.std.specs.Option.{option_map, option_map_or}
-use Rattle.ca_law_keys.proofs.of_ca_law_endings.LeadsLemmas.{leads-unless}
-use Rattle.ca_law_keys.proofs.of_ca_law_endings.PathChangeLemmas.{Behind}
-use Rattle.ca_law_keys.proofs.of_ca_law_endings.PathVerbLemmas.{agrees-present, call_of}
-use Rattle.ca_law_keys.specs.ca_law_endings.Runs.{Leads}
+use Rattle.ca_law_endings.proofs.LeadsLemmas.{leads-unless}
+use Rattle.ca_law_endings.proofs.PathChangeLemmas.{Behind}
+use Rattle.ca_law_endings.proofs.PathVerbLemmas.{agrees-present, call_of}
+use Rattle.ca_law_endings.specs.Runs.{Leads}
 use Rattle.ca_law_keys.proofs.Keys.KeyTurnLemmas.{found}
 use Rattle.ca_law_keys.proofs.Posts.PostMade.{life-refl, other-life}
 use Rattle.ca_law_keys.specs.Posts.{AgreeInSlot, life}
@@ -40,7 +40,7 @@ use Rattle.ca_keys.specs.Numbers.{key_at, queue_of, window_index}
 use Rattle.ca_keys.specs.declared.grant.Grant.{Grant}
 use Rattle.ca_keys.specs.declared.names.QueueId.{QueueId}
 use Rattle.ca_keys.specs.declared.names.Slot.{Slot}
-use Rattle.ca_law_keys.proofs.of_ca_law_world.Sound.WorldLemmas.{IsThere}
+use Rattle.ca_law_world.proofs.Sound.WorldLemmas.{IsThere}
 use Rattle.ca_model.specs.Ordered.{are_unsignalled, place_behind}
 use Rattle.ca_model.specs.Past.{Past, Posted, correspondent_eq, drawn_at, present_incarnation, with_at}
 use Rattle.ca_model.specs.declared.answer.Answer.{Answer}

@@ -2,11 +2,11 @@
 -- follows the machine. For proofs only.
 use Rattle.std.proofs.Common.{◌≡◌, ℕ, suc, Bool, true, false, List, [], ◌∷◌, map, Ok, Err, refl, sym, ap, subst, rules, true≢false}
 use Rattle.std.specs.List.{AllByRecursion}
-use Rattle.ca_law_keys.proofs.of_ca_law_endings.EventFitLemmas.{first-marks}
-use Rattle.ca_law_keys.proofs.of_ca_law_endings.LeadsLemmas.{comes, leads-weaker}
-use Rattle.ca_law_keys.proofs.of_ca_law_endings.PathVerbLemmas.{call_of}
-use Rattle.ca_law_keys.specs.ca_law_endings.Agreement.{HoldsAlong}
-use Rattle.ca_law_keys.specs.ca_law_endings.Runs.{Comes, Leads}
+use Rattle.ca_law_endings.proofs.EventFitLemmas.{first-marks}
+use Rattle.ca_law_endings.proofs.LeadsLemmas.{comes, leads-weaker}
+use Rattle.ca_law_endings.proofs.PathVerbLemmas.{call_of}
+use Rattle.ca_law_endings.specs.Agreement.{HoldsAlong}
+use Rattle.ca_law_endings.specs.Runs.{Comes, Leads}
 use Rattle.ca_law_keys.proofs.Posts.GrantLemmas.{both-true}
 use Rattle.ca_law_keys.proofs.Posts.PostLaws.{event-posts-agree, opening-posts-agree}
 use Rattle.ca_law_keys.specs.Posts.{PostsAgree}
@@ -17,9 +17,9 @@ use Rattle.ca_law_order.specs.Completed.{CompletedAgree}
 use Rattle.ca_law_order.specs.InOrder.{DoCompleteInOrder, completes_in_order}
 use Rattle.ca_base.specs.Configuration.{Configuration}
 use Rattle.ca_keys.specs.Memory.{ByteMap}
-use Rattle.ca_law_keys.proofs.of_ca_law_world.Sound.SoundLemmas.{event-sound, opening-sound}
-use Rattle.ca_law_keys.proofs.of_ca_law_world.Steady.EventLemmas.{event-steady, opening-steady}
-use Rattle.ca_law_keys.specs.ca_law_world.Steady.{IsSteadyWorld}
+use Rattle.ca_law_world.proofs.Sound.SoundLemmas.{event-sound, opening-sound}
+use Rattle.ca_law_world.proofs.Steady.EventLemmas.{event-steady, opening-steady}
+use Rattle.ca_law_world.specs.Steady.{IsSteadyWorld}
 use Rattle.ca_model.specs.Entries.{EntryValue}
 use Rattle.ca_model.specs.Past.{Past, after_entry, after_marks, at_begin, at_end, each_entry, each_mark, opening_past}
 use Rattle.ca_model.specs.declared.answer.Refusal.TheVariants.{NoSuch}

@@ -22,7 +22,7 @@ use Rattle.ca_base.specs.declared.request.SendRequest.{SendRequest}
 use Rattle.ca_base.specs.objects.QueuePair.{QueuePair}
 use Rattle.ca_base.specs.objects.WorkQueue.{WorkQueue, item_at, items_from, next_place}
 use Rattle.ca_keys.specs.declared.names.QueueId.{QueueId}
-use Rattle.ca_law_keys.proofs.of_ca_law_world.Sound.NumberingLemmas.{Numbers, all-taken, are-numbers, length-numbers, take-numbers}
+use Rattle.ca_law_world.proofs.Sound.NumberingLemmas.{Numbers, all-taken, are-numbers, length-numbers, take-numbers}
 use Rattle.ca_model.specs.Ordered.{is_completion_of}
 use Rattle.ca_model.specs.Past.{Posted}
 use Rattle.ca_model.specs.Requests.{operation_of, psns_of}

@@ -1,9 +1,9 @@
 -- Turns and packets complete sends in order, and keep the agreement on those that completed. For proofs only.
 use Rattle.std.proofs.Common.{◌≡◌, ℕ, suc, ◌<◌, ◌&&◌, Bool, true, false, if◌then◌else◌, List, [], ◌∷◌, ◌++◌, Option, None, Some, refl, sym, ap, subst, ◌∙◌, arith, rules}
 use Rattle.std.specs.Option.{option_map, option_map_or}
-use Rattle.ca_law_keys.proofs.of_ca_law_endings.LeadsLemmas.{AreAside, IsAsideName, leads-around, leads-queue, leads-row, leads-unless}
-use Rattle.ca_law_keys.proofs.of_ca_law_endings.PathLemmas.{puts-append}
-use Rattle.ca_law_keys.specs.ca_law_endings.Runs.{Leads}
+use Rattle.ca_law_endings.proofs.LeadsLemmas.{AreAside, IsAsideName, leads-around, leads-queue, leads-row, leads-unless}
+use Rattle.ca_law_endings.proofs.PathLemmas.{puts-append}
+use Rattle.ca_law_endings.specs.Runs.{Leads}
 use Rattle.ca_law_keys.proofs.Keys.KeyTurnLemmas.{found}
 use Rattle.ca_law_keys.proofs.Posts.PlaceLemmas.{IsPerformed, IsPostedAt, item-posted, performs}
 use Rattle.ca_law_keys.proofs.Posts.PostTurnLemmas.{AreDrawn, IsDrawn, any-such, leads-perform}
@@ -31,8 +31,8 @@ use Rattle.ca_keys.specs.Memory.{memory_after}
 use Rattle.ca_keys.specs.declared.grant.Grant.{Grant}
 use Rattle.ca_keys.specs.declared.key.Key.{Key}
 use Rattle.ca_keys.specs.declared.names.QueueId.{QueueId}
-use Rattle.ca_law_keys.proofs.of_ca_law_world.Sound.WorldLemmas.{IsThere, RowDoes, around_in, shared_of}
-use Rattle.ca_law_keys.proofs.of_ca_law_world.Steady.TurnLemmas.{there-kept}
+use Rattle.ca_law_world.proofs.Sound.WorldLemmas.{IsThere, RowDoes, around_in, shared_of}
+use Rattle.ca_law_world.proofs.Steady.TurnLemmas.{there-kept}
 use Rattle.ca_model.specs.Past.{Past, Posted, after_marks, at_begin, each_mark, present_incarnation, with_at}
 use Rattle.ca_model.specs.declared.event.Event.{Event}
 use Rattle.ca_model.specs.declared.event.Event.TheVariants as events

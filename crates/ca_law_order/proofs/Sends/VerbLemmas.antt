@@ -2,10 +2,10 @@
 -- its sends, posts and changes of state. For proofs only.
 use Rattle.std.proofs.Common.{◌≡◌, ℕ, suc, ◌-◌, ◌<◌, ◌&&◌, nat_lt, Bool, true, false, not, is_none, if◌then◌else◌, List, [], ◌∷◌, ◌++◌, Option, None, Some, refl, sym, ap, subst, arith}
 use Rattle.std.specs.Option.{option_and_then, option_map}
-use Rattle.ca_law_keys.proofs.of_ca_law_endings.LeadsLemmas.{leads-around, leads-unless}
-use Rattle.ca_law_keys.proofs.of_ca_law_endings.PathChangeLemmas.{Behind}
-use Rattle.ca_law_keys.proofs.of_ca_law_endings.PathVerbLemmas.{agrees-present, call_of}
-use Rattle.ca_law_keys.specs.ca_law_endings.Runs.{Leads}
+use Rattle.ca_law_endings.proofs.LeadsLemmas.{leads-around, leads-unless}
+use Rattle.ca_law_endings.proofs.PathChangeLemmas.{Behind}
+use Rattle.ca_law_endings.proofs.PathVerbLemmas.{agrees-present, call_of}
+use Rattle.ca_law_endings.specs.Runs.{Leads}
 use Rattle.ca_law_keys.proofs.Keys.KeyTurnLemmas.{found}
 use Rattle.ca_law_keys.specs.Posts.{life}
 use Rattle.ca_law_order.proofs.Sends.CompleteLemmas.{Complete, none-between}
@@ -26,8 +26,8 @@ use Rattle.ca_keys.specs.Equal.{queue_eq}
 use Rattle.ca_keys.specs.Numbers.{queue_of}
 use Rattle.ca_keys.specs.declared.names.QueueId.{QueueId}
 use Rattle.ca_keys.specs.declared.names.Slot.{Slot}
-use Rattle.ca_law_keys.proofs.of_ca_law_world.Sound.SettledLemmas.{queue-path}
-use Rattle.ca_law_keys.proofs.of_ca_law_world.Sound.WorldLemmas.{around_in, shared_of}
+use Rattle.ca_law_world.proofs.Sound.SettledLemmas.{queue-path}
+use Rattle.ca_law_world.proofs.Sound.WorldLemmas.{around_in, shared_of}
 use Rattle.ca_model.specs.Past.{Past, Posted, present_incarnation, with_at}
 use Rattle.ca_model.specs.declared.answer.Answer.TheVariants as answers
 use Rattle.ca_model.specs.declared.answer.Refusal.{Refusal}

@@ -1,13 +1,13 @@
 ghost use Rattle.std.specs.List.{AllByRecursion};
 ghost use Rattle.std.specs.Prelude.{List};
-ghost use Rattle.ca_law_keys.specs.ca_law_endings.Agreement.{HoldsAlong};
-ghost use Rattle.ca_law_keys.specs.ca_law_endings.Runs.{Comes};
+ghost use Rattle.ca_law_endings.specs.Agreement.{HoldsAlong};
+ghost use Rattle.ca_law_endings.specs.Runs.{Comes};
 ghost use Rattle.ca_law_keys.specs.Posts.{PostsAgree};
 ghost use Rattle.ca_law_order.specs.Completed.{CompletedAgree};
 ghost use Rattle.ca_law_order.specs.InOrder.{DoCompleteInOrder};
 ghost use Rattle.ca_base.specs.Configuration.{Configuration};
 ghost use Rattle.ca_keys.specs.Memory.{ByteMap};
-ghost use Rattle.ca_law_keys.specs.ca_law_world.Steady.{IsSteadyWorld};
+ghost use Rattle.ca_law_world.specs.Steady.{IsSteadyWorld};
 ghost use Rattle.ca_model.specs.Entries.{EntryValue};
 ghost use Rattle.ca_model.specs.Past.{Past, after_marks, at_begin, at_end, opening_past};
 ghost use Rattle.ca_model.specs.declared.event.Event.{Event};

@@ -31,7 +31,7 @@ use Rattle.ca_base.specs.declared.queue_numbers.Queued.TheVariants as queued
 use Rattle.ca_base.specs.objects.Saved.{saved_at}
 use Rattle.ca_base.specs.declared.request.PlacedReceive.{PlacedReceive}
 use Rattle.ca_base.specs.objects.SharedReceives.{SharedReceives}
-use Rattle.ca_law_world.specs.ca_psn.Psn.{widened}
+use Rattle.ca_psn.specs.Psn.{widened}
 use Rattle.ca_wire.specs.declared.atomic_eth.AtomicEth.{AtomicEth}
 use Rattle.ca_wire.specs.declared.reth.Reth.{Reth}
 use Rattle.ca_wire.specs.declared.shape.Position.{Position}

@@ -12,7 +12,7 @@ use Rattle.ca_model.specs.Entries.{EntryValue}
 use Rattle.ca_model.specs.Past.{after_entries, opening_past}
 use Rattle.ca_model.specs.machine.Run.{Follows}
 use Rattle.ca_model.specs.machine.Sound.{AreLimited}
-use Rattle.ca_law_bounds.proofs.of_ca_law_once.Once.RunLemmas.{walk-along}
+use Rattle.ca_law_once.proofs.Once.RunLemmas.{walk-along}
 use Rattle.ca_script_order.proofs.FollowLemmas.{order-follows}
 use Rattle.ca_script_order.proofs.ScriptLemmas.{order-told}
 use Rattle.ca_script_order.specs.OfScript.{BudgetSpent, Fine, LeadsTo, Stalled, Status, lines_at, opening_reach, stalled_at, stalled_from, status_of}

@@ -31,12 +31,12 @@ use Rattle.ca_model.specs.machine.Step.{step}
 use Rattle.ca_model.specs.machine.Sound.{IsSoundWorld}
 use Rattle.ca_model.specs.machine.Turns.{reaches_peer, timeout_plan}
 use Rattle.ca_model.specs.machine.World.{World}
-use Rattle.ca_law_bounds.proofs.of_ca_law_once.Once.RunLemmas.{Walk}
+use Rattle.ca_law_once.proofs.Once.RunLemmas.{Walk}
 use Rattle.ca_script_order.specs.OfScript.{Reach, lot_eq, may_stand, left_after, reach_by, reach_from}
 use Rattle.ca_law_lossless.specs.RowMail.{AreWholeDrops, DropsWhole}
 use Rattle.ca_script.specs.Script.{ScriptValue}
 use Rattle.ca_law_lossless.specs.CalmEvents.{AreCalm, IsCalmEvent, IsCalmMark}
-use Rattle.ca_law_bounds.proofs.of_ca_law_once.Verbs.TurnWalks.{leads-timeout}
+use Rattle.ca_law_once.proofs.Verbs.TurnWalks.{leads-timeout}
 use Rattle.ca_model_places.specs.Turns.{lot_at}
 use Rattle.ca_law_bounds.specs.PostWeights.{InjectsNothing}
 

@@ -1,12 +1,12 @@
 -- A history of a script that keeps to the limits is lawful, and so is its order. For proofs only.
 use Rattle.std.specs.Prelude.{List}
-use Rattle.ca_law_caused.proofs.of_ca_law_endings.EventFitLemmas.{followed-is-history}
-use Rattle.ca_law_caused.proofs.of_ca_law_carried.Carried.EndEventLemmas.{whole-along}
+use Rattle.ca_law_endings.proofs.EventFitLemmas.{followed-is-history}
+use Rattle.ca_law_carried.proofs.Carried.EndEventLemmas.{whole-along}
 use Rattle.ca_law_caused.proofs.Link.HistoryLemmas.{caused-along}
 use Rattle.ca_law_isolation.proofs.AloneLemmas.{alone-goes}
-use Rattle.ca_law_isolation.proofs.of_ca_law_keys.Judged.JudgeEventLemmas.{judged-along}
+use Rattle.ca_law_keys.proofs.Judged.JudgeEventLemmas.{judged-along}
 use Rattle.ca_keys.specs.Memory.{zeros}
-use Rattle.ca_law_caused.proofs.of_ca_law_keys.Licensed.LicensedLemmas.{licensed-along}
+use Rattle.ca_law_keys.proofs.Licensed.LicensedLemmas.{licensed-along}
 use Rattle.ca_model.specs.Entries.{EntryValue}
 use Rattle.ca_model.specs.History.{IsHistory}
 use Rattle.ca_model.specs.machine.Run.{Follows}

@@ -1,8 +1,8 @@
 -- The marks of an order tell the memory in which it ends. For proofs only.
 use Rattle.std.proofs.Common.{◌≡◌, Bool, true, false, if◌then◌else◌, List, [], ◌∷◌, Option, None, Some, is_some, true≢false, sym, ap, subst}
-use Rattle.ca_law_caused.specs.ca_law_endings.Agreement.{HoldsAlong}
-use Rattle.ca_law_order.proofs.of_ca_law_keys.Keys.KeyLaws.{keys-along}
-use Rattle.ca_law_order.specs.ca_law_keys.InForce.{KeysAgree}
+use Rattle.ca_law_endings.specs.Agreement.{HoldsAlong}
+use Rattle.ca_law_keys.proofs.Keys.KeyLaws.{keys-along}
+use Rattle.ca_law_keys.specs.InForce.{KeysAgree}
 use Rattle.ca_keys.specs.Memory.{zeros}
 use Rattle.ca_model.specs.Entries.{EntryValue}
 use Rattle.ca_model.specs.Past.{Past, after_entries, after_entry, opening_past}

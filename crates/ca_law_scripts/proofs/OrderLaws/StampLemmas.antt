@@ -1,7 +1,7 @@
 -- The entries of an order have the stamps 0, 1, 2 and so on. For proofs only.
 use Rattle.std.proofs.Common.{◌≡◌, ℕ, suc, ◌+◌, List, [], ◌∷◌, ◌++◌, length, reverse, refl, sym, subst, arith}
 use Rattle.std.proofs.lemmas.List.{length-reverse, reverse-append}
-use Rattle.ca_law_caused.specs.ca_law_endings.Runs.{AreStamped}
+use Rattle.ca_law_endings.specs.Runs.{AreStamped}
 use Rattle.ca_model.specs.Entries.{EntryValue}
 use Rattle.ca_model.specs.declared.event.Event.{Event}
 use Rattle.ca_model.specs.machine.Plan.{Did, NotReady, Outcome}

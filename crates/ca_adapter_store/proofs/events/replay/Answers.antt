@@ -1,9 +1,9 @@
 use Rattle.std.proofs.Common.{arith}
 use Rattle.ca_base.specs.Configuration.{configuration_of}
-use Rattle.ca_law_caused.proofs.of_ca_law_carried.Carried.EndEventLemmas.{whole-along}
+use Rattle.ca_law_carried.proofs.Carried.EndEventLemmas.{whole-along}
 use Rattle.ca_law_caused.proofs.Link.HistoryLemmas.{caused-along}
-use Rattle.ca_law_caused.proofs.of_ca_law_keys.Judged.JudgeEventLemmas.{judged-along}
-use Rattle.ca_law_caused.proofs.of_ca_law_keys.Licensed.LicensedLemmas.{licensed-along}
+use Rattle.ca_law_keys.proofs.Judged.JudgeEventLemmas.{judged-along}
+use Rattle.ca_law_keys.proofs.Licensed.LicensedLemmas.{licensed-along}
 use Rattle.ca_model.specs.Carried.{Carried}
 use Rattle.ca_model.specs.Caused.{Caused}
 use Rattle.ca_model.specs.Judged.{Judged}

@@ -1,5 +1,5 @@
 use Rattle.std.proofs.Common.{arith}
-use Rattle.ca_psn.specs.ca_base.declared.limits.TheConstants.{MIN_PATH_MTU, MAX_MESSAGE_PACKETS}
+use Rattle.ca_base.specs.declared.limits.TheConstants.{MIN_PATH_MTU, MAX_MESSAGE_PACKETS}
 use Rattle.ca_connection.proofs.LayoutLemmas.{segments-most}
 use Rattle.ca_connection.proofs.numbers.longest_message.Goals as goal
 
