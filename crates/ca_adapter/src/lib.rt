@@ -1,28 +1,16 @@
-//! The adapter: what an event does with the parts in hand, by the machine.
-//!
 //! The adapter: what an event does with the parts in hand, by the machine. To the layers above it promises that an act
 //! is the event's plan, carried out in the small world of what is held, and so the machine's step in every world that
 //! shows it: the same marks and changes, the same reason where the event is not possible, and where memory ends nothing
 //! has changed. Whoever acts shows that the parts in hand are those of a world that comes up, and that none which the
-//! event needs is missing.
+//! event needs is missing. A requester's turn is among the acts: it sends a packet of a request, performs a local
+//! operation, or waits. And it promises, as clauses of functions that do nothing, that in every world that comes up a
+//! queue pair can be changed and can leave what stands around it: what a flush completes fits, few receives wait, and
+//! each place that it holds of a shared receive queue stands there once. It says so of the world, and of the parts in
+//! hand that such a world shows.
 //!
-//! The act of a requester's turn: it sends a packet of a request, performs a local operation, or waits. To the layers
-//! above it promises that the act is the plan of its event, carried out in the small world of what is held: the same
-//! marks and changes, the same reason where the turn is not possible, and where memory ends, none.
-//!
-//! What acts on queue pairs ask, of every world that comes up: laws. To the layers above it promises, as clauses of
-//! functions that do nothing, that in every world that comes up a queue pair can be changed and can leave what stands
-//! around it: what a flush completes fits, few receives wait, and each place that it holds of a shared receive queue
-//! stands there once. It says so of the world, and of the parts in hand that such a world shows.
-//!
-//! Source: InfiniBand Architecture Specification Volume 1, the chapter on the verbs; the order of refusals is this
-//! profile's choice.
-//!
-//! Source: InfiniBand Architecture Specification Volume 1, the chapter on the transport layer, sections on the
-//! requester of the reliable connection; who may take which turn when is this profile's choice.
-//!
-//! Source: InfiniBand Architecture Specification Volume 1, the chapter on the software transport interface, sections on
-//! queue pairs and shared receive queues.
+//! Source: InfiniBand Architecture Specification Volume 1, the chapters on the verbs, on the software transport
+//! interface, sections on queue pairs and shared receive queues, and on the transport layer, sections on the requester
+//! of the reliable connection. The order of refusals, and who may take which turn when, are this profile's choice.
 #![tactic(auto)]
 
 mod events;

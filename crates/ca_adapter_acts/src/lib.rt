@@ -1,17 +1,11 @@
-//! Acts of an adapter: what a call makes of the parts in hand.
+//! Acts of an adapter: what all acts share. The call that is answered and the marks of its answer, copies of requests,
+//! completions that are put into held queues, and how what was done completes. To the layers above it promises the
+//! marks of each answer, and that completions go to the queues of their queue pair in their order; where memory ends,
+//! nothing has changed. And, as a clause of a function that does nothing, that an event's plan carried out with the
+//! parts in hand is the machine's step in every world that shows them.
 //!
-//! Acts: what all acts share. The call that is answered and the marks of its answer, copies of requests, completions
-//! that are put into held queues, and how what was done completes. To the layers above it promises the marks of each
-//! answer, and that completions go to the queues of their queue pair in their order; where memory ends, nothing has
-//! changed.
-//!
-//! An act is a step: a law over the machine and what is held. To the layers above it promises, as a clause of a
-//! function that does nothing, that an event's plan carried out with the parts in hand is the machine's step in every
-//! world that shows them. It holds of the definitions, and no code is in it.
-//!
-//! Source: InfiniBand Architecture Specification Volume 1, the chapter on the verbs.
-//!
-//! Source: this profile's choice.
+//! Source: InfiniBand Architecture Specification Volume 1, the chapter on the verbs; that an event has a few parts in
+//! hand is this profile's choice.
 #![tactic(auto)]
 
 mod answers;

@@ -1,22 +1,15 @@
-//! A connection over whole numbers: each packet acts once, and where nothing is lost nothing is sent again.
-//!
-//! Why each packet of a connection acts once, whatever is lost, repeated or late: one direction of a connection as a
-//! small protocol over whole numbers, and its laws. To the layers above it promises, of every link that the moves lead
-//! to, that the PSN of a packet that is delivered stands for the number with which it was sent, that each number is
-//! accepted once, that an atomic which completed acted exactly once and gave what it found, and that a response fits
-//! the request that has its number. No function here does anything: each is a law, and its contract says it.
-//!
-//! A connection in calm weather, where each packet is delivered once, in the order of sending, and no timer fires: why
-//! its requester never sends a number again. To the layers above it promises, as clauses of functions that do nothing,
-//! that of every link that calm moves lead to the oldest undelivered request is the one that the responder expects;
-//! that the oldest undelivered response passes no READ and no atomic that is unanswered, and is no sequence error; and
-//! that the requester's cursor never goes back. No function here does anything: each is a law, and its contract says
-//! it.
+//! A connection over whole numbers: one direction of it as a small protocol, and why each packet acts once, whatever is
+//! lost, repeated or late. To the layers above it promises, of every link that the moves lead to, that the PSN of a
+//! packet that is delivered stands for the number with which it was sent, that each number is accepted once, that an
+//! atomic which completed acted exactly once and gave what it found, and that a response fits the request that has its
+//! number. In calm weather each packet is delivered once, in the order of sending, and no timer fires. Of every link
+//! that calm moves lead to it promises that the oldest undelivered request is the one that the responder expects; that
+//! the oldest undelivered response passes no READ and no atomic that is unanswered, and is no sequence error; and that
+//! the requester's cursor never goes back, so that it never sends a number again. No function here does anything: each
+//! is a law, and its contract says it.
 //!
 //! Source: InfiniBand Architecture Specification Volume 1, the chapter on transport services (reliable connection). The
 //! limits, and how duplicates are answered, are this profile's choice.
-//!
-//! Source: InfiniBand Architecture Specification Volume 1, the chapter on transport services (reliable connection).
 #![tactic(auto)]
 
 mod bounds;

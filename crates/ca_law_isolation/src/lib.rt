@@ -1,28 +1,18 @@
-//! Laws of domains: every history is Isolated.
+//! Laws of domains: every history that follows the machine over a limited configuration, with events that can be made,
+//! is Isolated. To the layers above it promises, as clauses of functions that do nothing:
 //!
-//! Events keep to their domains: what an event of a group of domains touches is of the group. To the layers above it
-//! promises, as clauses of functions that do nothing, that an event touches things of its own domain alone, but for the
-//! peer of the queue pair whose turn it is, and bytes that its domain's regions grant; that an event of others leaves a
-//! group's things as they were; and that a closed group has no peer outside it. They hold of the machine's definitions,
-//! and no code is in them.
+//! - An event touches things of its own domain alone, but for the peer of the queue pair whose turn it is, and bytes
+//!   that its domain's regions grant; an event of others leaves a group's things as they were; and a closed group has
+//!   no peer outside it.
+//! - The marks of an event in a sound world keep to bounds: no more bytes at once than a Store may have, and no byte
+//!   behind the end of its buffer.
+//! - In such a history the events of each closed group have the marks that they have in the group's lone run: the run
+//!   over the bytes that its grants cover, of its own events alone and of Stores for what others write there.
 //!
-//! What events write and grant keeps to bounds: no more bytes at once than a Store may have, and no byte behind the end
-//! of its buffer. To the layers above it promises, as a clause of a function that does nothing, that each mark of an
-//! event in a sound world keeps to these bounds. It holds of the machine's definitions, and no code is in it.
+//! They hold of the machine's definitions, and no code is in them.
 //!
-//! Isolation: a closed group of domains gets what it would get alone. To the layers above it promises, as a clause of a
-//! function that does nothing, that in every history that follows the machine the events of each closed group have the
-//! marks that they have in the group's lone run: the run over the bytes that its grants cover, of its own events alone
-//! and of Stores for what others write there. It holds of the machine's definitions, and no code is in it.
-//!
-//! Source: InfiniBand Architecture Specification Volume 1, the chapter on the software transport interface: protection
-//! domains.
-//!
-//! Source: InfiniBand Architecture Specification Volume 1, the chapter on the software transport interface: memory
-//! regions; the longest payload is that of the largest path MTU.
-//!
-//! Source: this profile's choice; protection domains and grants are those of the software transport interface,
-//! InfiniBand Architecture Specification Volume 1.
+//! Source: this profile's choice; protection domains, memory regions and grants are those of the software transport
+//! interface, InfiniBand Architecture Specification Volume 1. The longest payload is that of the largest path MTU.
 #![tactic(auto)]
 
 mod laws;

@@ -1,29 +1,18 @@
-//! Laws of calm weather: a link that loses nothing.
+//! Laws of calm weather: a link that loses nothing. To the layers above it promises, as clauses of functions that do
+//! nothing:
 //!
-//! What the requester makes of a response, and the responder of a request, in calm weather. To the layers above it
-//! promises, as clauses of functions that do nothing, that a response which passes no READ and no atomic that is
-//! unanswered, and is neither a sequence error nor an RNR NAK, leaves the requester's cursor, and brings `una` to where
-//! it reaches; and that a request which the responder expects is admitted as a calm link's responder admits it. They
-//! hold of the machine's definitions, and no code is in them.
+//! - A response which passes no READ and no atomic that is unanswered, and is neither a sequence error nor an RNR NAK,
+//!   leaves the requester's cursor, and brings `una` to where it reaches.
+//! - A request which the responder expects is admitted as a calm link's responder admits it, and leaves the queue pair
+//!   as that link's responder stands; a turn of the responder sends the front of its response queue, or denies a READ
+//!   and closes it; and what is sent says so.
+//! - Before the first event a world is tied to the calm link before the first packet. Each event of calm weather (each
+//!   packet passes, each delivery is of what is due, nothing is lost or injected, and no timer fires) leaves a world
+//!   that is tied to a calm link, and does not lower the cursor of the life that sends.
+//! - Where mail is in order, a requester does not come to wait for a wake, no packet is dropped for what it is itself,
+//!   and what is sent is for the peer.
 //!
-//! How a responder stands in calm weather: after a request that it expects, and after its turn. To the layers above it
-//! promises, as clauses of functions that do nothing, that a request which the responder expects is admitted as a calm
-//! link's responder admits it, and leaves the queue pair as that link's responder stands; that a turn of the responder
-//! sends the front of its response queue, or denies a READ and closes it; and that what is sent says so. They hold of
-//! the machine's definitions, and no code is in them.
-//!
-//! When a world and a calm link say the same of one direction of a connection, and that each event of calm weather
-//! keeps this. To the layers above it promises, as clauses of functions that do nothing, that before the first event a
-//! world is tied to the calm link before the first packet; and that each event of calm weather in such a world (each
-//! packet passes, each delivery is of what is due, nothing is lost or injected, and no timer fires) leaves a world that
-//! is tied to a calm link, and does not lower the cursor of the life that sends. They hold of the machine's
-//! definitions, and no code is in them.
-//!
-//! What a row of the machine does where mail is in order: a requester does not come to wait for a wake, no packet is
-//! dropped for what it is itself, and what is sent is for the peer. To the layers above it promises these laws, as
-//! clauses of functions that do nothing. They hold of the machine's definitions, and no code is in them.
-//!
-//! Source: InfiniBand Architecture Specification Volume 1, the chapter on transport services (reliable connection).
+//! They hold of the machine's definitions, and no code is in them.
 //!
 //! Source: InfiniBand Architecture Specification Volume 1, the chapters on transport services (reliable connection: RNR
 //! NAK) and on packets (P_Key, destination queue pair).

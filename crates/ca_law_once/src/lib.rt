@@ -1,53 +1,27 @@
-//! Laws of links: every history is Once and Written.
+//! Laws of links: every history that follows the machine over a limited configuration, with events that can be made, is
+//! Once, Written and WrittenOnce. To the layers above it promises, as clauses of functions that do nothing:
 //!
-//! Why what the machine does at a queue pair is a move of a link: each row of its responder and its requester, each
-//! packet that they spell, and each turn, timer, wake and local operation. To the layers above it promises, as clauses
-//! of functions that do nothing, that whatever a row makes of a packet, a link's side may make of it, whichever keys,
-//! bytes and refusals it meets; that the bytes of a packet that is sent decode, if they decode, to the packet of the
-//! link; that the connection's other direction leaves the side, or empties its response queue; and that each of these
-//! leads from a link that moves lead to to another one. They hold of the machine's definitions, and no code is in them.
+//! - What the machine does at a queue pair is a move of a link. Whatever a row makes of a packet, a link's side may
+//!   make of it, whichever keys, bytes and refusals it meets; the bytes of a packet that is sent decode, if they
+//!   decode, to the packet of the link; the connection's other direction leaves the side, or empties its response
+//!   queue; and each of these, and each timer, wake and local operation, leads from a link that moves lead to to
+//!   another one.
+//! - Before the first event a world is tied to the opening link of each direction of a connection. Each event whose
+//!   answer agrees with the direction, in a world that is tied to a link, leaves one that is tied to a link to which
+//!   moves lead; and the marks of a turn tell of the requests under way. Queue pairs begin empty: nothing is posted
+//!   before Rts, and there are no peer, no saved results and no envelopes before Rtr.
+//! - In such a world the PSN of each packet that may be delivered is taken for the number with which the packet was
+//!   sent, and the numbers of the two ends form a chain. An event tells of the success of an atomic only where the link
+//!   accepted that atomic once, and the number that it found is what the event put into lists; of the success of a SEND
+//!   or a WRITE only where all its numbers lie below the link's expected one.
+//! - Each clean connection of a history is a link in each direction. The finished history tells the direction
+//!   (`direction_of`): the PSN that the receiving end expects, the path MTU, and the requests that the sending end
+//!   posted. Entry by entry the world stays tied to a link of it, and the past says the same (`IsTold`). So each atomic
+//!   of a clean connection acts at most once, and exactly once, with the number that it found in its list, where it
+//!   completed with success; and the packets of a WRITE write in order, each at most once, and all of them before the
+//!   WRITE completes with success.
 //!
-//! When a world and a link say the same of one direction of a connection, and that the turns of the machine keep this.
-//! To the layers above it promises, as clauses of functions that do nothing, that before the first event a world is
-//! tied to the opening link; and that each delivery, each turn of a requester or a responder, each timer and each wake,
-//! ModifyQp to Error and to Reset, CreateQp, DestroyQp, and the verbs that change no queue pair and no mailbox, in a
-//! world that is tied to a link, are moves of the link or none: they leave a world that is tied to a link to which
-//! moves lead. And that the marks of a turn tell of the requests under way: one entry more is of the one packet that
-//! was sent there. Of ModifyQp to the other states, postings, Poll and DeallocMw nothing is said here. They hold of the
-//! machine's definitions, and no code is in them.
-//!
-//! That every event of the machine keeps a world tied to a link. To the layers above it promises, as clauses of
-//! functions that do nothing, that before the first event and after every event queue pairs begin empty: nothing is
-//! posted before Rts, and there are no peer, no saved results and no envelopes before Rtr; and that each event whose
-//! answer agrees with one direction of a connection, in a world that is tied to a link, leaves a world that is tied to
-//! a link to which moves lead. They hold of the machine's definitions, and no code is in them.
-//!
-//! That an atomic of a clean connection that completes with success was accepted once, and that the number which it
-//! found is what its completion's event put into its list; and that of a SEND or a WRITE each packet was accepted. To
-//! the layers above it promises, as clauses of functions that do nothing, that each event of a sound world of steady
-//! queue pairs that is tied to a link tells of the success of an atomic only where the link accepted that atomic once,
-//! and that the eight bytes of what it found are those that the event put into lists; of the success of a SEND or a
-//! WRITE only where all its numbers lie below the link's expected one; and that every posted atomic has a list of eight
-//! bytes. They hold of the machine's definitions, and no code is in them.
-//!
-//! The bounds on the numbers of a connection, as laws of worlds that are tied to a link. To the layers above it
-//! promises, as clauses of functions that do nothing, that in such a world the PSN of each packet that may be delivered
-//! is taken for the number with which the packet was sent, and how near that lies; and that the numbers of the two ends
-//! form a chain. They hold of the machine's definitions, and no code is in them.
-//!
-//! Every history that follows the machine is Once: each atomic of a clean connection acts at most once, and exactly
-//! once, with the number that it found in its list, where it completed with success. To the layers above it promises,
-//! as clauses of functions that do nothing, this law, its first half by itself, and that each clean connection is a
-//! link in each direction. The finished history tells the direction (`direction_of`): the PSN that the receiving end
-//! expects, the path MTU, and the requests that the sending end posted. Entry by entry the world stays tied to a link
-//! of it, and the past says the same: whose packets lie in the mailbox of the receiving end, and which numbers its
-//! atomics found (`IsTold`). So the laws of links hold of histories. They hold of the machine's definitions, and no
-//! code is in them.
-//!
-//! Every history that follows the machine is Written: the packets of a posted WRITE of a clean connection write in
-//! order, each at most once, and all of them before the WRITE completes with success.
-//!
-//! Source: InfiniBand Architecture Specification Volume 1, the chapter on transport services (reliable connection).
+//! They hold of the machine's definitions, and no code is in them.
 //!
 //! Source: InfiniBand Architecture Specification Volume 1, the chapters on transport services (reliable connection) and
 //! on software transport interfaces.

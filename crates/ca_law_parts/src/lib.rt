@@ -1,41 +1,24 @@
-//! Laws of parts: what an event touches is configured, which parts it needs, and numbers that stay small.
+//! Laws of parts: what an event touches, and what numbers and queues keep to. To the layers above it promises, as
+//! clauses of functions that do nothing:
 //!
-//! Placed worlds: what is not configured stays vacant, and events touch nothing of it. To the layers above it promises,
-//! as clauses of functions that do nothing, that the world before the first event is placed, that every event leaves a
-//! sound and placed world placed, and that in such a world all things that an event looks at, reads, changes or writes
-//! are configured, and so are the queue pairs of completions that wait. They hold of the machine's definitions, and no
-//! code is in them.
+//! - Worlds are placed: what is not configured stays vacant, and all things that an event looks at, reads, changes or
+//!   writes are configured, and so are the queue pairs of completions that wait.
+//! - An event touches only what stands in the parts that a table names for it, and these are few. The table is data: a
+//!   part, or what a thing decides. So which part is needed next follows from those in hand, and naming one after
+//!   another comes to an end.
+//! - Numbers that only events raise are 0 before the first event. Every event raises each by one at most, and whole
+//!   PSNs, which begin below 2^25, by 4096. So before 2^32 - 1 events each of them that a call asks to be below the end
+//!   of its type is.
+//! - Completion queues have room: each completion of an event finds a place in its completion queue, which holds at
+//!   most its capacity, and at most so many receives of one queue pair as this may post.
+//! - One record has all that holds of a world that comes up: it holds before the first event, and every event that can
+//!   be made keeps it. So whoever acts on parts of a world has one premise, from which each law gives what a call asks
+//!   for.
 //!
-//! Numbers that only events raise are small: how large each is at most after so many events. To the layers above it
-//! promises, as clauses of functions that do nothing, that in the world before the first event these numbers are 0;
-//! that every event raises each by one at most, and whole PSNs, which begin below 2^25, by 4096; and that so, before
-//! 2^32 - 1 events, each of them that a call asks to be below the end of its type is. They hold of the machine's
-//! definitions, and no code is in them.
+//! They hold of the machine's definitions, and no code is in them.
 //!
-//! The parts of a fabric that an event needs. To the layers above it promises, as clauses of functions that do nothing,
-//! that in a sound world an event touches only what stands in the parts that the table names for it, and that these are
-//! few. The table is data: a part, or what a thing decides. So which part is needed next follows from those in hand,
-//! and naming one after another comes to an end. They hold of the machine's definitions, and no code is in them.
-//!
-//! What holds of every world that comes up, in one record. To the layers above it promises, as clauses of functions
-//! that do nothing, that the world before the first event is as the record says, and that every event that can be made
-//! leaves it so. So whoever acts on parts of a world has one premise, from which each law on worlds gives what a call
-//! asks for.
-//!
-//! Completion queues have room: each completion of an event finds a place in its completion queue. To the layers above
-//! it promises, as clauses of functions that do nothing, that in every world that comes up each completion queue holds
-//! at most its capacity, and at most so many receives of one queue pair as this may post. They hold of the machine's
-//! definitions, and no code is in them.
-//!
-//! Source: this profile's choice; what is placed is what an implementation with a slot for each configured thing needs.
-//!
-//! Source: this profile's choice; the bounds are what the calls of an implementation ask for.
-//!
-//! Source: this profile's choice.
-//!
-//! Source: this profile's choice; it joins the laws on what comes up.
-//!
-//! Source: this profile's choice; the room is what each queue pair reserved when it was made.
+//! Source: this profile's choice. Placed worlds are what an implementation with a slot for each configured thing needs,
+//! the bounds are what its calls ask for, and the room is what each queue pair reserved when it was made.
 #![tactic(auto)]
 
 mod laws;

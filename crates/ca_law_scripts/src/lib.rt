@@ -1,36 +1,23 @@
-//! Laws of scripts: what the order of a script comes to.
+//! Laws of scripts: what a text that means a script gives, and what the order of a script comes to. To the layers above
+//! it promises, as clauses of functions that do nothing:
 //!
-//! Laws: where all is quiet, each queue pair is at rest. To the layers above it promises, as clauses of functions that
-//! do nothing, that in a quiet world no posted request is left unfinished, but for those that wait by the rules; and so
-//! at the end of a script's order, where its status is Fine or Stalled. They hold of the machine's definitions, and no
-//! code is in them.
+//! - A script that a text means can be worked on one thread, and keeps to the limits. The bytes behind a front which is
+//!   longer than a script may be make no difference.
+//! - The order of a script that keeps to the limits is lawful: it is a history which is judged, licensed, ordered,
+//!   carried and caused, whose atomics act once and whose WRITEs are written once, and in which closed groups of
+//!   domains get what they would get alone. The bytes at its end are those that its marks have written.
+//! - In a quiet world no posted request is left unfinished, but for those that wait by the rules; so it is at the end
+//!   of a script's order, where its status is Fine or Stalled.
+//! - Each history of a script in calm weather that nothing befalls, and in which every connection is clean, has at most
+//!   four entries for each packet that the script's lines post, and one for each line. So the script's events are not
+//!   spent, where there are more of them.
+//! - The line of a verb in a trace, from its consumer on, is a line of a script that says this verb: the table of a
+//!   trace's verbs and the table of a script's lines cannot drift apart.
 //!
-//! Laws: the order of a script that keeps to the limits is lawful, and its marks tell the memory in which it ends. To
-//! the layers above it promises, as clauses of functions that do nothing, that such an order is a history which is
-//! judged, licensed, ordered and carried, whose atomics act once and whose WRITEs are written once, and in which closed
-//! groups of domains get what they would get alone; and that the bytes at its end are those that its marks have
-//! written. They hold of the definitions of scripts and of the machine, and no code is in them.
+//! They hold of the definitions of scripts, of traces and of the machine, and no code is in them.
 //!
-//! Laws: what a text that means a script gives. To the layers above it promises, as clauses of functions that do
-//! nothing, that such a script can be worked on one thread, that its order is a history which is judged, licensed,
-//! ordered, carried and caused, and that the bytes behind a front which is longer than a script may be make no
-//! difference. They hold of the definitions of scripts and of the machine, and no code is in them.
-//!
-//! A law on both grammars: the line of a verb in a trace, from its consumer on, is a line of a script that says this
-//! verb. To the layer above it promises that the table of a trace's verbs and the table of a script's lines cannot
-//! drift apart.
-//!
-//! How many entries the histories of a script in calm weather have, as laws of scripts. To the layers above it
-//! promises, as clauses of functions that do nothing, that each history of such a script that nothing befalls, and in
-//! which every connection is clean, has at most four entries for each packet that the script's lines post, and one for
-//! each line; and so that the script's events are not spent, where there are more of them. They hold of the definitions
-//! of scripts and of the machine, and no code is in them.
-//!
-//! Source: this profile's choice; the standard says nothing of when channel adapters come to rest.
-//!
-//! Source: this profile's choice; scripts are no matter of the InfiniBand Architecture Specification.
-//!
-//! Source: this profile's choice, as both texts are.
+//! Source: this profile's choice; scripts are no matter of the InfiniBand Architecture Specification, which says
+//! nothing of when channel adapters come to rest.
 #![tactic(auto)]
 
 mod law;

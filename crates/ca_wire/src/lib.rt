@@ -1,16 +1,10 @@
-//! Packets: their bytes, and what engines say in them.
-//!
-//! The packets of the reliable connection: their headers, the one table of their opcodes, the reading of bytes into a
+//! Packets of the reliable connection: their headers, the one table of their opcodes, the reading of bytes into a
 //! packet, and the one canonical spelling of a packet. To the layers above it promises that `decode` gives a packet
 //! exactly where the bytes spell it, that each refusal comes exactly where the first of its ordered tests fails, and
-//! that what `encode` wrote is read again.
-//!
-//! What engines say in packets: the packets that requests and answers are sent as, the segments that a message is cut
-//! into, and the syndromes of acknowledgements. The packets themselves are those of `ca_packet`, which it hands out
-//! too. To the layers above it promises that each packet has the fields that its kind asks for, that a segment lies
-//! where its message does, and that a syndrome that is sent is received as what it says.
-//!
-//! Source: InfiniBand Architecture Specification Volume 1, the chapter on the transport layer's packet formats.
+//! that what `encode` wrote is read again. And what engines say in packets: the packets that requests and answers are
+//! sent as, the segments that a message is cut into, and the syndromes of acknowledgements. Of these it promises that
+//! each packet has the fields that its kind asks for, that a segment lies where its message does, and that a syndrome
+//! that is sent is received as what it says.
 //!
 //! Source: InfiniBand Architecture Specification Volume 1, the chapters on the transport layer's packet formats and
 //! transport services.

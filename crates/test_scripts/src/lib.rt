@@ -1,10 +1,6 @@
-//! Tests of scripts, and of the offers of an engine.
-//!
-//! Tests of scripts: what an independent program says of scripts, good and bad, and what made scripts mean as text. It
-//! has nothing but tests, so that the crates of the reader are proved once.
-//!
-//! Tests above the engine: the offers of two consumers and three queue pairs beside lists written by hand. It has
-//! nothing but tests, so that the crate below is proved once.
+//! Tests of scripts, and of the offers of an engine: what an independent program says of scripts, good and bad, and
+//! what made scripts mean as text; and the offers to two consumers and three queue pairs beside lists written by hand.
+//! It has nothing but tests, so that the crates of the reader and the engine are proved once.
 #![tactic(auto)]
 
 #[cfg(test)]
