@@ -1,20 +1,14 @@
 ghost use Rattle.std.specs.List.{AllByRecursion};
 ghost use Rattle.std.specs.Prelude.{◌≡◌, ◌-◌, ◌+◌, ◌<◌, ◌^◌, ◌++◌, [], ◌∷◌, IfOk, OnOk, length};
 ghost use Rattle.ca_base.specs.Configuration.{Configuration, configuration_of};
-ghost use Rattle.ca_model.specs.Carried.{Carried};
-ghost use Rattle.ca_model.specs.Caused.{Caused};
+ghost use Rattle.ca_law_caused.specs.Relations.{HasRelations};
 ghost use Rattle.ca_model.specs.History.{IsHistory};
-ghost use Rattle.ca_model.specs.Judged.{Judged};
-ghost use Rattle.ca_model.specs.Licensed.{Licensed};
-ghost use Rattle.ca_model.specs.Once.{Once};
-ghost use Rattle.ca_model.specs.Ordered.{Ordered};
 ghost use Rattle.ca_model.specs.machine.Run.{run_from, run_over};
 ghost use Rattle.ca_model.specs.machine.Sound.{AreLimited, CanBeMade};
 ghost use Rattle.ca_model.specs.machine.World.{World};
 ghost use Rattle.ca_adapter_opening.specs.Opening.{FitContents, opening_bytes};
 ghost use Rattle.ca_adapter_store.specs.Replays.{IsReplay, history_of, stop_at};
 ghost use Rattle.ca_adapter_store.specs.Rows.{IsRow, IsRowOf};
-ghost use Rattle.ca_law_once.specs.Written.{Written, WrittenOnce};
 
 use crate::row::Row;
 use ca_base::{Memory, Reason, StepError};
@@ -51,22 +45,8 @@ pub fn replay(alloc: Global, opening: &Opening, events: &[Event]) -> Result<Vec<
     ensures run { let c = configuration_of opening.now.config in
         IsReplay result (run_over c (opening_bytes c opening.now.contents) events.now) }
     ensures history { IfOk result (λ all. IsHistory (history_of events.now all.items)) }
-    ensures judged { let c = configuration_of opening.now.config in
-        IfOk result (λ all. Judged (opening_bytes c opening.now.contents) (history_of events.now all.items)) }
-    ensures licensed { let c = configuration_of opening.now.config in
-        IfOk result (λ all. Licensed (opening_bytes c opening.now.contents) (history_of events.now all.items)) }
-    ensures carried { let c = configuration_of opening.now.config in
-        IfOk result (λ all. Carried (opening_bytes c opening.now.contents) (history_of events.now all.items)) }
-    ensures once { let c = configuration_of opening.now.config in
-        IfOk result (λ all. Once (opening_bytes c opening.now.contents) (history_of events.now all.items)) }
-    ensures written { let c = configuration_of opening.now.config in
-        IfOk result (λ all. Written (opening_bytes c opening.now.contents) (history_of events.now all.items)) }
-    ensures written_once { let c = configuration_of opening.now.config in
-        IfOk result (λ all. WrittenOnce (opening_bytes c opening.now.contents) (history_of events.now all.items)) }
-    ensures caused { let c = configuration_of opening.now.config in
-        IfOk result (λ all. Caused (opening_bytes c opening.now.contents) (history_of events.now all.items)) }
-    ensures ordered { let c = configuration_of opening.now.config in
-        IfOk result (λ all. Ordered (opening_bytes c opening.now.contents) (history_of events.now all.items)) }
+    ensures lawful { let c = configuration_of opening.now.config in
+        IfOk result (λ all. HasRelations (opening_bytes c opening.now.contents) (history_of events.now all.items)) }
 {
     let mut row = Row::open(alloc, opening)?;
     make_all(alloc, &mut row, events)

@@ -1,3 +1,4 @@
 pub mod Caused
 pub mod Lists
 pub mod Link
+pub mod RelationLemmas

@@ -4,3 +4,4 @@ pub mod Rest
 pub mod Listed
 pub mod Refused
 pub mod Linked
+pub mod Relations

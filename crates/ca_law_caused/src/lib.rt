@@ -22,6 +22,7 @@ mod laws;
 pub use laws::{
     answers_fit_on_clean_connections, causes_and_rest_are_caused, completions_have_their_causes,
     event_keeps_causes_agreed, histories_agree_on_causes, histories_agree_on_reasons,
-    lists_and_link_are_the_rest, machine_is_caused, machine_is_caused_but_for_the_link,
-    opening_agrees_on_causes, receives_complete_with_their_lists, refusals_have_befallen_peers,
+    lists_and_link_are_the_rest, machine_has_relations, machine_is_caused,
+    machine_is_caused_but_for_the_link, opening_agrees_on_causes,
+    receives_complete_with_their_lists, refusals_have_befallen_peers,
 };

@@ -2,33 +2,20 @@
 use Rattle.std.specs.Prelude.{List}
 use Rattle.ca_isolation.specs.Alone.{Isolated}
 use Rattle.ca_keys.specs.Memory.{zeros}
-use Rattle.ca_model.specs.Carried.{Carried}
-use Rattle.ca_model.specs.Caused.{Caused}
+use Rattle.ca_law_caused.specs.Relations.{HasRelations}
 use Rattle.ca_model.specs.Entries.{EntryValue}
 use Rattle.ca_model.specs.History.{IsHistory}
-use Rattle.ca_model.specs.Judged.{Judged}
-use Rattle.ca_model.specs.Licensed.{Licensed}
-use Rattle.ca_model.specs.Once.{Once}
-use Rattle.ca_model.specs.Ordered.{Ordered}
 use Rattle.ca_model.specs.machine.Run.{Follows}
 use Rattle.ca_script_order.specs.OfScript.{LeadsTo}
 use Rattle.ca_script_order.specs.Order.{Stage, ending}
 use Rattle.ca_script.specs.Script.{ScriptValue}
-use Rattle.ca_law_once.specs.Written.{Written, WrittenOnce}
 
--- A history of a script over buffers of zeros is lawful: it follows the machine, is a history, is judged, licensed,
--- carried, once, written, ordered, caused and isolated; and it is one of the script, and leads to this stage.
+-- A history of a script over buffers of zeros is lawful: it follows the machine, is a history, has all the relations, and is
+-- isolated; and it is one of the script, and leads to this stage.
 pub record IsLawfulHistory (s : ScriptValue) (es : List EntryValue) (end : Stage) : Type 0 where
   pub follows : Follows s.config zeros es
   pub history : IsHistory es
-  pub judged : Judged zeros es
-  pub licensed : Licensed zeros es
-  pub carried : Carried zeros es
-  pub once : Once zeros es
-  pub written : Written zeros es
-  pub written_once : WrittenOnce zeros es
-  pub ordered : Ordered zeros es
-  pub caused : Caused zeros es
+  pub relations : HasRelations zeros es
   pub isolated : Isolated s.config zeros es
   pub of_script : LeadsTo s es end
 

@@ -15,7 +15,6 @@ pub mod Carried
 pub mod Once
 pub mod Ordered
 pub mod Caused
-pub mod Lawful
 pub mod machine
 -- The libraries below, handed on to those above.
 pub use Rattle.ca_psn.specs as ca_psn

@@ -5,25 +5,19 @@ use Rattle.ca_law_endings.proofs.EventFitLemmas.{followed-is-history}
 use Rattle.ca_law_endings.specs.Runs.{AreStamped}
 use Rattle.ca_base.specs.Configuration.{configuration_in}
 use Rattle.ca_base.specs.declared.settings.Settings.{Settings}
-use Rattle.ca_law_carried.proofs.Carried.EndEventLemmas.{whole-along}
-use Rattle.ca_law_caused.proofs.Link.HistoryLemmas.{caused-along}
 use Rattle.ca_verbs_machine.specs.declared.asked.Told.{Told}
 use Rattle.ca_law_isolation.proofs.AloneLemmas.{alone-goes}
-use Rattle.ca_law_keys.proofs.Judged.JudgeEventLemmas.{judged-along}
 use Rattle.ca_keys.specs.Memory.{zeros}
-use Rattle.ca_law_keys.proofs.Licensed.LicensedLemmas.{licensed-along}
+use Rattle.ca_law_caused.proofs.RelationLemmas.{relations-along}
 use Rattle.ca_model.specs.Entries.{EntryValue, entry_of}
 use Rattle.ca_model.specs.declared.entry.Entry.{Entry}
 use Rattle.ca_model.specs.declared.event.Event.{Event}
 use Rattle.ca_model.specs.declared.mark.Mark.{Mark}
 use Rattle.ca_model.specs.machine.Run.{Follows, run}
 use Rattle.ca_model.specs.machine.Sound.{AreLimited, CanBeMade}
-use Rattle.ca_law_once.proofs.Once.WholeLemmas.{whole-along as once-along}
-use Rattle.ca_law_order.proofs.Ordered.OrderedLemmas.{ordered-along}
 use Rattle.ca_verbs_taking.specs.Holding.{Known}
 use Rattle.ca_verbs.specs.Closing.{IsHistoryOf, IsLawful, stamped_from}
 use Rattle.ca_verbs.specs.Kept.{Kept, kept_of}
-use Rattle.ca_law_once.proofs.Written.WrittenLemmas.{once-whole, written-whole}
 
 events-seen : (j : List Entry) → map (λ (e : EntryValue). e.event) (map entry_of j) ≡ map (λ (e : Entry). e.event) j
 events-seen [] = refl
@@ -55,14 +49,7 @@ stamps-count n (e ∷ es) (t ∷ ts) same = (first.0, stamps-count (suc n) es ts
 pub lawful-of : (key : Settings) (v : Known) (j : List Entry) → AreLimited (configuration_in key) → AllByRecursion (λ (e : Entry). CanBeMade e.event) j → IsHistoryOf key v j → IsLawful key j
 lawful-of key v j limited all history = record {
   history = followed-is-history (configuration_in key) zeros (map entry_of j) (stamps-count 0 j history.log history.kept) follows;
-  judged = judged-along (configuration_in key) zeros (map entry_of j) limited made follows;
-  licensed = licensed-along (configuration_in key) zeros (map entry_of j) limited made follows;
-  ordered = ordered-along (configuration_in key) zeros (map entry_of j) limited made follows;
-  carried = whole-along (configuration_in key) zeros (map entry_of j) limited made follows;
-  once = once-along (configuration_in key) zeros (map entry_of j) limited made follows;
-  written = written-whole (configuration_in key) zeros (map entry_of j) limited made follows;
-  written_once = once-whole (configuration_in key) zeros (map entry_of j) limited made follows;
-  caused = caused-along (configuration_in key) zeros (map entry_of j) limited made follows;
+  relations = relations-along (configuration_in key) zeros (map entry_of j) limited made follows;
   isolated = alone-goes (configuration_in key) zeros (map entry_of j) limited made follows;
 }
   where

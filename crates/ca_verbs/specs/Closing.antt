@@ -8,21 +8,15 @@ use Rattle.ca_verbs_machine.specs.Values.{PartValue}
 use Rattle.ca_verbs_machine.specs.declared.asked.Told.{Told}
 use Rattle.ca_isolation.specs.Alone.{Isolated}
 use Rattle.ca_keys.specs.Memory.{zeros}
-use Rattle.ca_model.specs.Carried.{Carried}
-use Rattle.ca_model.specs.Caused.{Caused}
+use Rattle.ca_law_caused.specs.Relations.{HasRelations}
 use Rattle.ca_model.specs.Entries.{entry_of}
 use Rattle.ca_model.specs.History.{IsHistory}
-use Rattle.ca_model.specs.Judged.{Judged}
-use Rattle.ca_model.specs.Licensed.{Licensed}
-use Rattle.ca_model.specs.Once.{Once}
-use Rattle.ca_model.specs.Ordered.{Ordered}
 use Rattle.ca_model.specs.declared.entry.Entry.{Entry}
 use Rattle.ca_model.specs.machine.Run.{run}
 use Rattle.ca_parts.specs.Hands.{AllStand}
 use Rattle.ca_parts.specs.Lists.{Has}
 use Rattle.ca_verbs_taking.specs.Holding.{Known}
 use Rattle.ca_verbs.specs.Kept.{Kept, kept_of}
-use Rattle.ca_law_once.specs.Written.{Written, WrittenOnce}
 
 -- a list of entries with its stamps, of which the first is this
 abbrev pub stamped_from : ℕ → List Told → List Kept
@@ -47,21 +41,11 @@ pub record AreRemains (key : Settings) (v : Known) (j : List Entry) (parts : Lis
   pub count : length parts ≡ part_count (configuration_in key)
   pub stand : (k : ℕ) (x : PartValue) → slice_get parts k ≡ Some x → StandsFor key history.log k x
 
--- A history over zeros is lawful: its stamps count from 0 and each verb has its answer, each access is judged by the grants
--- before it, each grant is licensed, what is carried has its cause, each atomic of a clean connection acts once, each packet
--- of a WRITE of a clean connection writes once and in order, all of them before the WRITE completes with success, each
--- completion that is no success has its cause, what completes and what is polled is in order, and a closed group of domains
--- gets what it would get alone.
+-- A history over zeros is lawful: its stamps count from 0 and each verb has its answer; it has all the relations; and a closed
+-- group of domains gets what it would get alone.
 pub record IsLawful (key : Settings) (j : List Entry) : Type 0 where
   pub history : IsHistory (map entry_of j)
-  pub judged : Judged zeros (map entry_of j)
-  pub licensed : Licensed zeros (map entry_of j)
-  pub ordered : Ordered zeros (map entry_of j)
-  pub carried : Carried zeros (map entry_of j)
-  pub once : Once zeros (map entry_of j)
-  pub written : Written zeros (map entry_of j)
-  pub written_once : WrittenOnce zeros (map entry_of j)
-  pub caused : Caused zeros (map entry_of j)
+  pub relations : HasRelations zeros (map entry_of j)
   pub isolated : Isolated (configuration_in key) zeros (map entry_of j)
 
 -- the stamps of entries
