@@ -94,8 +94,8 @@ pub const MAX_UNDELIVERED: u32 = 128;
 /// The latest envelopes of a mailbox that can be delivered.
 pub const KEPT_ENVELOPES: u32 = 256;
 
-/// The results of atomics that a queue pair keeps for duplicates.
-pub const SAVED_RESULTS: usize = 16;
+/// The results of atomics that a queue pair keeps for duplicates: of all that can be outstanding.
+pub const SAVED_RESULTS: usize = MAX_READS as usize;
 
 /// The most READs and atomics that a queue pair has outstanding, and that a responder queues, duplicates apart.
 pub const MAX_READS: u8 = 16;

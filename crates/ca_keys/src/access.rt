@@ -1,7 +1,6 @@
 ghost use Rattle.std.specs.Prelude.{◌≡◌, Some};
 ghost use Rattle.ca_keys.specs.Spelling.{kind_text, denial_text};
 
-use crate::grant::Grant;
 use crate::key::Key;
 use crate::names::{DomainId, QueueId};
 use std::fmt;
@@ -100,36 +99,5 @@ impl Ask {
         } else {
             KeyUse::RKey
         }
-    }
-
-    /// The first part of the key check that fails, over the grants in force, the latest first. None comes exactly
-    /// where the access is allowed; an access of no bytes is.
-    pub fn denial(&self, in_force: &[Grant]) -> Option<Denial>
-        ensures { result ≡ allowed.denial_of self.now in_force.now }
-    {
-        if self.length == 0 {
-            return None;
-        }
-        for grant in in_force {
-            if grant.fits(self) {
-                return self.denial_by(grant);
-            }
-        }
-        Some(Denial::NoGrant)
-    }
-
-    fn denial_by(&self, grant: &Grant) -> Option<Denial>
-        ensures { result ≡ allowed.denial_by self.now grant.now }
-    {
-        if !grant.serves(self.queue) {
-            return Some(Denial::WrongQueue);
-        }
-        if !grant.rights.suffice(self.key_use(), self.kind) {
-            return Some(Denial::NoRight);
-        }
-        if !grant.covers(self) {
-            return Some(Denial::OutOfRange);
-        }
-        None
     }
 }

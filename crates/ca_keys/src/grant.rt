@@ -29,25 +29,4 @@ impl Grant {
     {
         self.key == ask.key && self.domain == ask.domain && (!ask.local || self.local)
     }
-
-    /// Whether the grant names no queue pair, or this one.
-    pub fn serves(&self, queue: QueueId) -> bool
-        ensures { result ≡ allowed.serves self.now.queue queue }
-    {
-        match self.queue {
-            None => true,
-            Some(named) => named == queue,
-        }
-    }
-
-    /// Whether all the addresses that are asked for are the grant's.
-    pub fn covers(&self, ask: &Ask) -> bool
-        ensures { result ≡ allowed.covers self.now ask.now }
-    {
-        if ask.address < self.address {
-            return false;
-        }
-        let before = ask.address - self.address;
-        before <= u64::from(self.length) && u64::from(ask.length) <= u64::from(self.length) - before
-    }
 }

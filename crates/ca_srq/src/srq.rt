@@ -32,7 +32,7 @@ impl Model for Srq {
 }
 
 impl Srq {
-    ghost use Rattle.std.specs.Prelude.{◌≡◌, ◌-◌, ◌<◌, ◌^◌, ◌↔◌, suc, length, IfOk, IfErr, IsOk, IsTrue, is_some, not, option_copied, true};
+    ghost use Rattle.std.specs.Prelude.{◌≡◌, ◌-◌, ◌<◌, ◌^◌, ◌↔◌, suc, length, IfOk, IfErr, IsOk, IsTrue, not, option_copied, true};
     ghost use Rattle.std.specs.Option.{option_map};
     ghost use Rattle.ca_base.specs.objects.SharedReceives.{empty_receives, occupied_receives, is_full_of_receives, after_receive_post, first_receive, after_receive_take, after_receive_retire};
     ghost use Rattle.ca_srq.specs.Taken.{stands_once};
@@ -108,13 +108,6 @@ impl Srq {
         ensures { result ≡ length self.now.waiting }
     {
         self.waiting.len() as u16
-    }
-
-    /// Whether a receive waits to be taken. It takes no memory.
-    pub fn has_waiting(&self) -> bool
-        ensures { result ≡ is_some (first_receive self.now) }
-    {
-        self.waiting.front().is_some()
     }
 
     /// Whether all places are occupied. It takes no memory.

@@ -104,13 +104,6 @@ impl<T> WorkQueue<T> {
         next.saturating_sub(self.next_taken) as u16
     }
 
-    /// Whether a request waits to be taken. It takes no memory.
-    pub fn has_waiting(&self) -> bool
-        ensures { result ≡ nat_lt 0 (waiting_count self.now) }
-    {
-        self.next_taken < self.first + self.requests.len() as u64
-    }
-
     /// Whether all places are occupied. It takes no memory.
     pub fn is_full(&self) -> bool
         ensures { result ≡ is_full self.now }

@@ -1,6 +1,7 @@
 -- Packets that arrive at a responder, and its answers: each drop, packets ahead and duplicates, each way to be invalid,
 -- receives, denials, and what is accepted. For proofs only.
 use Rattle.std.proofs.Common.{◌≡◌, ℕ, ◌^◌, ◌-◌, Bool, List, [], ◌∷◌, ◌++◌, map, replicate, true, false, Option, None, Some, refl}
+use Rattle.std.specs.List.{count_by}
 use Rattle.ca_keys.specs.declared.access.Denial.{Denial}
 use Rattle.ca_keys.specs.declared.access.Denial.TheVariants as denials
 use Rattle.ca_base.specs.declared.change.State.TheVariants as states
@@ -22,6 +23,8 @@ use Rattle.ca_wire.specs.Table.{row_of}
 use Rattle.ca_model.specs.declared.event.Event.TheVariants as events
 use Rattle.ca_model.specs.declared.mark.Drop1.{Drop1}
 use Rattle.ca_model.specs.declared.mark.Drop1.TheVariants as drops
+use Rattle.ca_model.specs.declared.mark.Mark.{Mark}
+use Rattle.ca_model.specs.declared.mark.Mark.TheVariants as marks
 use Rattle.ca_model.specs.declared.verb.Verb.TheVariants as verbs
 use Rattle.ca_model.specs.machine.Plan.{Update, ◌:=◌, Outcome, NotReady, Did, put_all}
 use Rattle.ca_model.specs.machine.Step.{step}
@@ -180,6 +183,24 @@ duplicates : Arrives (
     ∷ [])
 unfolding row_of be_bytes packet_bytes number_at bth_at front_at reth_from atomic_from aeth_from number_from payload_at payload_behind body_in packet_in
 duplicates = refl
+
+-- the remote accesses where a packet arrives
+abbrev is_remote : Mark → Bool
+is_remote (marks.Remote queue domain envelope key kind address count verdict) = true
+is_remote m = false
+
+abbrev remote_accesses : Outcome → ℕ
+remote_accesses (NotReady reason) = 0
+remote_accesses (Did w ms) = count_by is_remote ms
+
+abbrev accessed : QueuePair → Fields → ℕ
+accessed p packet =
+    remote_accesses (step pair (put_all ((Queue_of (q 0 256) := Present p) ∷ []) furnished) (events.Verb 0 (verbs.Inject (q 0 256) (spelling packet))))
+
+-- a WRITE accesses memory where it is expected, and not where it comes again
+once_accessed : map (λ p. accessed p (write 0 1 1 0x100000000 8 None 8)) (receiver ∷ expecting 3 receiver ∷ []) ≡ 1 ∷ 0 ∷ []
+unfolding row_of be_bytes packet_bytes number_at bth_at front_at reth_from atomic_from aeth_from number_from payload_at payload_behind body_in packet_in
+once_accessed = refl
 
 -- an invalid request: a NAK 1, and the posted receive is flushed
 abbrev invalid : List Queued → Seen

@@ -40,11 +40,11 @@ fn take(queue: &mut Srq) -> Option<(u64, u64)>
 #[test]
 fn a_place_is_freed_alone(rt: HostRuntime) -> Result<(), Fail> {
     let mut queue = Srq::create(rt.alloc(), 2)?;
-    same(&rt, queue.has_waiting(), false, "none waits yet");
+    same(&rt, queue.waiting(), 0, "none waits yet");
     same(&rt, post(&mut queue, 10), Ok(0), "the first place");
     same(&rt, queue.is_full(), false, "a place is free");
     same(&rt, post(&mut queue, 11), Ok(1), "the second place");
-    same(&rt, queue.has_waiting(), true, "two wait");
+    same(&rt, queue.waiting(), 2, "two wait");
     same(&rt, queue.is_full(), true, "no place is free");
     same(&rt, queue.depth(), 2, "the depth");
     same(&rt, post(&mut queue, 12), Err(12), "a full queue");

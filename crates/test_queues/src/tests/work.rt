@@ -40,16 +40,16 @@ fn a_full_queue_is_freed_up_to_a_later_place(rt: HostRuntime) -> Result<(), Fail
 fn all_that_wait_are_taken_and_a_reset_begins_anew(rt: HostRuntime) -> Result<(), Fail> {
     let mut queue = WorkQueue::create(rt.alloc(), 2)?;
     same(&rt, queue.next_place(), 0, "the place of the first post");
-    same(&rt, queue.has_waiting(), false, "none waits yet");
+    same(&rt, queue.waiting(), 0, "none waits yet");
     same(&rt, queue.post(10), Ok(0), "the first place");
     same(&rt, queue.is_full(), false, "a place is free");
     same(&rt, queue.post(11), Ok(1), "the second place");
     same(&rt, queue.next_place(), 2, "the place of the third post");
-    same(&rt, queue.has_waiting(), true, "two wait");
+    same(&rt, queue.waiting(), 2, "two wait");
     same(&rt, queue.is_full(), true, "no place is free");
     same(&rt, queue.depth(), 2, "the depth");
     queue.take_all();
-    same(&rt, queue.has_waiting(), false, "none waits any more");
+    same(&rt, queue.waiting(), 0, "none waits any more");
     same(&rt, queue.take_next(), None, "none waits");
     same(&rt, queue.occupied(), 2, "what was taken still occupies");
     queue.retire(0);
