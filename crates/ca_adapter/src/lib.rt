@@ -19,10 +19,12 @@ mod lists;
 mod requesting;
 mod verbs;
 
-pub use ca_adapter_footprint;
-pub use ca_adapter_footprint::ca_requester_sends;
+pub use ca_adapter_footprint::{ca_requester_sends, next_part};
+pub use ca_adapter_opening::parts;
 pub use ca_adapter_pairs;
+pub use ca_adapter_parts::{ControlPart, Held, Part, QueueSlot, SrqSlot};
 pub use ca_adapter_posts::ca_qp_rows;
+pub use ca_model_places::place;
 pub use events::act;
 pub use laws::{
     held_queue_pairs_can_change, held_queue_pairs_can_depart, queue_pairs_can_change,

@@ -14,8 +14,7 @@ ghost use Rattle.ca_adapter_store.specs.declared.hand.TheConstants.{MOST_GUESSED
 ghost use Rattle.ca_model.specs.machine.Step.{step};
 
 use crate::likely::{buffer_of, first_names, next_names};
-use ca_adapter::act;
-use ca_adapter::ca_adapter_footprint::next_part;
+use ca_adapter::{act, next_part};
 use ca_adapter_parts::{ControlPart, Held, Part};
 use ca_base::limits::MAX_HELD_PARTS;
 use ca_base::{Settings, StepError};

@@ -1,5 +1,6 @@
 pub mod AnswerLemmas
 pub mod ArrivalLemmas
+pub mod ShapeLemmas
 pub mod AskingLemmas
 pub mod ValidLemmas
 pub mod WaitingLemmas

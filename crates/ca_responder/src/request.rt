@@ -15,10 +15,9 @@ ghost use Rattle.ca_responder_operations.specs.ca_qp_rows.Made.{IsMade};
 use crate::checks::{is_invalid, is_missing, put_receive};
 use crate::duplicates::{take_ahead, take_duplicate};
 use ca_base::{Memory, Queued};
-use ca_model::{Drop1, Marks};
+use ca_model::Marks;
 use ca_psn::widen;
 use ca_responder_operations::ca_grant::Reach;
-use ca_responder_operations::ca_qp_rows::drop_packet;
 use ca_responder_operations::ca_qpstate::QueuePart;
 use ca_responder_operations::ca_responder_answers::{queue_answer, refuse_invalid};
 use ca_responder_operations::{
@@ -84,7 +83,7 @@ fn take_shared(srq: &mut Srq, taken: SharedReceive)
 ///    `take_read`;
 /// 10. a SEND ends the key that it names: `end_key`;
 /// 11. the expected PSN goes past it, and its message may end: `pass`, in `end_send` and `end_write`.
-#[tactic(auto, using(crate::proofs::WaitingLemmas::lacks_by))]
+#[tactic(auto, using(crate::proofs::WaitingLemmas::lacks_by, crate::proofs::ShapeLemmas::request_has_shape))]
 fn take_request<R: Reach>(
     q: &mut QueuePart,
     srq: Option<&Srq>,
@@ -104,8 +103,7 @@ fn take_request<R: Reach>(
         q.old q.new marks.old marks.new reach.old reach.new }
 {
     let Some(shape) = shape_of(p.opcode) else {
-        drop_packet(q, Drop1::State, marks)?;
-        return Ok(SharedReceive::Stays);
+        unreachable!()
     };
     let psn = widen(q.responder.expected, p.psn);
     let request = Request {

@@ -13,7 +13,7 @@ ghost use Rattle.ca_verbs_taking.specs.Asking.{asked_of};
 ghost use Rattle.ca_model_places.specs.declared.turn.Turn.TheVariants as turns;
 
 use crate::ask::Ask;
-use ca_adapter::ca_adapter_footprint::next_part;
+use ca_adapter::next_part;
 use ca_adapter_parts::{Held, QueueSlot};
 use ca_base::{Lot, QueueId, Settings};
 use ca_model::{Event, PartName};
