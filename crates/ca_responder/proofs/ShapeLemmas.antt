@@ -24,4 +24,4 @@ request_has_shape p well request none = row (row_of p.opcode) well.known request
 
     row : (o : Option Row) → IsSome o → answers (option_map (λ r. r.operation) o) ≡ false → request_shape (option_map (λ r. r.operation) o) ≡ None → ⊥
     row (Some r) known request none = by r.operation request none
-    row None known request none = absurd known
+    row None known request none = true≢false (sym known)
