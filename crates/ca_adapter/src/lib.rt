@@ -8,6 +8,8 @@
 //! each place that it holds of a shared receive queue stands there once. It says so of the world, and of the parts in
 //! hand that such a world shows.
 //!
+//! It hands out what a caller needs for one event: `place` and `parts`, `Held` with what is in it, `next_part` and `act`.
+//!
 //! Source: InfiniBand Architecture Specification Volume 1, the chapters on the verbs, on the software transport
 //! interface, sections on queue pairs and shared receive queues, and on the transport layer, sections on the requester
 //! of the reliable connection. The order of refusals, and who may take which turn when, are this profile's choice.
@@ -21,7 +23,6 @@ mod verbs;
 
 pub use ca_adapter_footprint::{ca_requester_sends, next_part};
 pub use ca_adapter_opening::parts;
-pub use ca_adapter_pairs;
 pub use ca_adapter_parts::{ControlPart, Held, Part, QueueSlot, SrqSlot};
 pub use ca_adapter_posts::ca_qp_rows;
 pub use ca_model_places::place;

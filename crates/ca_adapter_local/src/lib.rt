@@ -16,7 +16,6 @@ mod laws;
 mod made;
 mod operation;
 
-pub use ca_adapter_parts;
 pub use ca_adapter_turns;
 pub use ca_adapter_turns::ca_requester;
 pub use laws::operation_goes_by_no_lot;

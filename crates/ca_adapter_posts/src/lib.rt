@@ -15,7 +15,6 @@ mod sends;
 mod shared_receives;
 mod states;
 
-pub use ca_adapter_acts;
 pub use ca_qp_rows;
 pub use receives::post_recv;
 pub use sends::post_send;

@@ -9,10 +9,10 @@ use Rattle.ca_keys.specs.declared.grant.Grant.{Grant}
 use Rattle.ca_keys.specs.declared.rights.Rights.{Rights}
 use Rattle.std.specs.Option.{option_map, option_map_or, option_and_then}
 use Rattle.ca_keys.specs.Allowed.{suffice, fits, denial_of}
-use Rattle.ca_memory.specs.ca_base.Grants.{remote_rights}
+use Rattle.ca_base.specs.Grants.{remote_rights}
 use Rattle.ca_keys.specs.Memory.{cut, runs_at, runs_for}
-use Rattle.ca_memory.specs.ca_base.objects.Slices.{is_key_of}
-use Rattle.ca_memory.specs.ca_base.objects.Window.{Window, Binding, key_of_window, grant_of_binding}
+use Rattle.ca_base.specs.objects.Slices.{is_key_of}
+use Rattle.ca_base.specs.objects.Window.{Window, Binding, key_of_window, grant_of_binding}
 use Rattle.ca_grant.specs.KeySlot.{list_of_grant}
 use Rattle.ca_grant.specs.Parts.{grant_of_bound, LiesWithin}
 use Rattle.ca_grant.specs.Views.{denial_by_parts, fits_window}

@@ -3,8 +3,8 @@ use Rattle.std.specs.Prelude.{◌≡◌, ◌+◌, ◌≤◌, List, Option, None,
 use Rattle.std.specs.Option.{option_map, option_and_then}
 use Rattle.ca_keys.specs.declared.access.Ask.{Ask}
 use Rattle.ca_keys.specs.declared.grant.Grant.{Grant}
-use Rattle.ca_memory.specs.ca_base.objects.Region.{Region, grant_of_region}
-use Rattle.ca_memory.specs.ca_base.objects.Window.{Window, Binding, grant_of_binding}
+use Rattle.ca_base.specs.objects.Region.{Region, grant_of_region}
+use Rattle.ca_base.specs.objects.Window.{Window, Binding, grant_of_binding}
 use Rattle.ca_grant.specs.KeySlot.{list_of_grant}
 
 -- the grant for which a window stands, while it is bound, over what its region grants

@@ -10,12 +10,12 @@ use Rattle.ca_keys.specs.declared.access.Kind.TheVariants as kinds
 use Rattle.ca_keys.specs.declared.grant.Grant.{Grant}
 use Rattle.ca_keys.specs.declared.key.Key.{Key}
 use Rattle.ca_keys.specs.declared.place.Span.{Span}
-use Rattle.ca_memory.specs.ca_base.declared.limits.TheConstants.{ATOMIC_BYTES, MAX_PAYLOAD_BYTES}
+use Rattle.ca_base.specs.declared.limits.TheConstants.{ATOMIC_BYTES, MAX_PAYLOAD_BYTES}
 use Rattle.ca_keys.specs.declared.names.QueueId.{QueueId}
 use Rattle.ca_keys.specs.Equal.{key_eq}
 use Rattle.ca_keys.specs.Memory.{memory_after, places_count}
 use Rattle.ca_keys.specs.Numbers.{domain_of}
-use Rattle.ca_memory.specs.ca_base.Sight.{Sight, Invalidation, IsTouching, denial_in, first_denied, runs_in}
+use Rattle.ca_base.specs.Sight.{Sight, Invalidation, IsTouching, denial_in, first_denied, runs_in}
 use Rattle.ca_region.specs.Span.{runs_of_span}
 
 -- a list of asks that may be handed on: the parts of their keys are at hand, and where none is denied their bytes too

@@ -4,12 +4,12 @@ use Rattle.ca_keys.specs.declared.access.Ask.{Ask}
 use Rattle.ca_keys.specs.declared.access.Denial.{Denial}
 use Rattle.ca_keys.specs.declared.access.Denial.TheVariants.{NoGrant, WrongQueue, NoRight, OutOfRange}
 use Rattle.ca_keys.specs.declared.names.QueueId.{QueueId}
-use Rattle.ca_memory.specs.ca_base.declared.region_view.RegionView.{RegionView}
+use Rattle.ca_base.specs.declared.region_view.RegionView.{RegionView}
 use Rattle.ca_keys.specs.declared.rights.Rights.{Rights}
 use Rattle.ca_keys.specs.Allowed.{key_use, serves, suffice}
 use Rattle.ca_keys.specs.Equal.{key_eq}
 use Rattle.ca_keys.specs.Refusals.{first_of}
-use Rattle.ca_memory.specs.ca_base.objects.Slices.{is_key_of}
+use Rattle.ca_base.specs.objects.Slices.{is_key_of}
 use Rattle.ca_window.specs.declared.view.WindowView.{WindowView}
 
 -- all addresses that are asked for are within this many from an address on

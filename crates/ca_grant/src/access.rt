@@ -4,8 +4,8 @@ ghost use Rattle.ca_grant.specs.Access.{FitInBytes, buffer_after};
 ghost use Rattle.ca_memory.specs.Buffer.{memory_of};
 ghost use Rattle.ca_region.specs.Span.{runs_of_span};
 
+use ca_base::{Bytes, Memory, Span};
 use ca_memory::Buffer;
-use ca_memory::ca_base::{Bytes, Memory, Span};
 use std::alloc::Global;
 
 /// How many places a span has.

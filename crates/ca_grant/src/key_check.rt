@@ -3,9 +3,9 @@ ghost use Rattle.std.specs.Option.{option_copied};
 ghost use Rattle.ca_keys.specs.Allowed as allowed;
 ghost use Rattle.ca_keys.specs.Allowed.{denial_of};
 ghost use Rattle.ca_keys.specs.Memory.{runs_for, places_count};
-ghost use Rattle.ca_memory.specs.ca_base.declared.limits.TheConstants.{ATOMIC_BYTES};
-ghost use Rattle.ca_memory.specs.ca_base.objects.Region.{grant_of_region};
-ghost use Rattle.ca_memory.specs.ca_base.objects.Slices.{is_key_of};
+ghost use Rattle.ca_base.specs.declared.limits.TheConstants.{ATOMIC_BYTES};
+ghost use Rattle.ca_base.specs.objects.Region.{grant_of_region};
+ghost use Rattle.ca_base.specs.objects.Slices.{is_key_of};
 ghost use Rattle.ca_grant.specs.KeySlot.{list_of_grant};
 ghost use Rattle.ca_grant.specs.Parts.{grant_of_bound, grant_of_parts, grants_of_parts, IsOfAdapter, LiesInRegion, LiesWithin};
 ghost use Rattle.ca_grant.specs.Reaching.{IsPacketAsk};
@@ -13,7 +13,7 @@ ghost use Rattle.ca_grant.specs.Views as views;
 ghost use Rattle.ca_region.specs.Region.{HasBytes};
 ghost use Rattle.ca_region.specs.Span.{runs_of_span};
 
-use ca_memory::ca_base::{Ask, Denial, QueueId, RegionView, Rights, Span};
+use ca_base::{Ask, Denial, QueueId, RegionView, Rights, Span};
 use ca_region::Region;
 use ca_window::{Window, WindowView};
 

@@ -2,13 +2,13 @@ ghost use Rattle.std.specs.Prelude.{◌≡◌, ◌<◌, ℕ, List, Some, None, O
 ghost use Rattle.ca_keys.specs.declared.access.Ask.{Ask};
 ghost use Rattle.ca_keys.specs.declared.access.Denial.{Denial};
 ghost use Rattle.ca_keys.specs.Memory.{little_endian, little_endian_bytes};
-ghost use Rattle.ca_memory.specs.ca_base.Sight.{Sight, Invalidation, denial_in, bytes_in};
+ghost use Rattle.ca_base.specs.Sight.{Sight, Invalidation, denial_in, bytes_in};
 ghost use Rattle.ca_keys.specs.Numbers.{is_window_key};
-ghost use Rattle.ca_memory.specs.ca_base.objects.Window.{count_without};
+ghost use Rattle.ca_base.specs.objects.Window.{count_without};
 ghost use Rattle.ca_grant.specs.Reaching.{IsPacketAsk, IsAtomicAsk, IsFound, invalidation_by, sight_after_write, grants_without};
 ghost use Rattle.ca_memory.specs.Number.{number_after};
 
-use ca_memory::ca_base::{
+use ca_base::{
     Ask, AtomicOp, Denial, Key, Kind, Memory, OpRefusal, QueueId, Span, Verdict, WindowCount,
 };
 use std::alloc::Global;

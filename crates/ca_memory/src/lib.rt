@@ -11,5 +11,4 @@ mod buffer;
 mod number;
 
 pub use buffer::Buffer;
-pub use ca_base;
 pub use number::number_put;

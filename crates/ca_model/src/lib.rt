@@ -25,7 +25,6 @@ mod verb;
 mod write_reach;
 
 pub use answer::{Answer, Refusal};
-pub use ca_wire;
 pub use completions::Completions;
 pub use entry::Entry;
 pub use event::Event;

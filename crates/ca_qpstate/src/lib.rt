@@ -16,6 +16,5 @@ mod state_table;
 
 pub use ca_base::{Change, Field, ModifyRefusal, State};
 pub use ca_model;
-pub use ca_model::ca_wire;
 pub use ca_workqueue;
 pub use queue_part::QueuePart;

@@ -33,7 +33,6 @@ mod writing;
 pub use aeth::Aeth;
 pub use atomic_eth::AtomicEth;
 pub use bth::{Bth, read_bth};
-pub use ca_base;
 pub use decoding::decode;
 pub use encoding::encode;
 pub use laws::{one_packet, operations, reading, round_trip, spelling_length, syndromes};

@@ -1,5 +1,5 @@
 use Rattle.std.proofs.Common.{sym, ◌∙◌, arith}
-use Rattle.ca_memory.specs.ca_base.objects.Region.{grant_of_region}
+use Rattle.ca_base.specs.objects.Region.{grant_of_region}
 use Rattle.ca_grant.proofs.Windows.{window-runs}
 use Rattle.ca_grant.proofs.key_check.judge_by_window.Goals as goal
 
