@@ -20,7 +20,7 @@ use Rattle.ca_base.specs.declared.limits.TheConstants.{MAX_WINDOWS}
 use Rattle.ca_base.specs.declared.request.SendOp.{SendOp}
 use Rattle.ca_base.specs.declared.request.SendOp.TheVariants as ops
 use Rattle.ca_base.specs.declared.request.SendRequest.{SendRequest}
-use Rattle.ca_base.specs.declared.step.StepError.{StepError}
+use Rattle.ca_base.specs.declared.step.ActError.{ActError}
 use Rattle.ca_base.specs.declared.reserve.Reserve.TheVariants.{Sends}
 use Rattle.ca_base.specs.objects.CompletionQueue.{CompletionQueue}
 use Rattle.ca_base.specs.objects.QueuePair.{NoQueue, Present, QueueSlot, incarnation_of, is_present, queue_in}
@@ -118,7 +118,7 @@ verb_named c by verb w named = ap (λ b. if b then perform w (verb_plan c (call_
     else Did w (answer_mark (call_by by verb) (answers.Refused refusals.NoSuch) ∷ [])) named
 
 -- an act is the step of each world that shows what is held
-pub act_stepped : (c : Configuration) (event : Event) (result : Result MarkList StepError) (old new : Held) → IsReady c event old
+pub act_stepped : (c : Configuration) (event : Event) (result : Result MarkList ActError) (old new : Held) → IsReady c event old
     → Acts result (plan c event) old new → (w : World) → Shows w (holding old) → IsStepOf result (step c w event) w (holding old) (holding new)
 act_stepped c event result old new ready act w shows =
     act-steps c event result (holding old) (holding new) w shows (ready-suffices c event old ready) act

@@ -15,7 +15,7 @@ use ca_adapter_arrivals::ca_adapter_turns::{respond, rnr_wake, timeout};
 use ca_adapter_arrivals::deliver;
 use ca_adapter_footprint::is_named;
 use ca_adapter_parts::Held;
-use ca_base::{Settings, StepError};
+use ca_base::{ActError, Settings};
 use ca_model::{Event, Marks, Refusal, Verb};
 use std::alloc::Global;
 
@@ -31,7 +31,7 @@ pub fn act(
     settings: &Settings,
     event: &Event,
     held: &mut Held,
-) -> Result<Marks, StepError>
+) -> Result<Marks, ActError>
     requires ready { IsReady (configuration_in settings.now) event.now held.old }
     ensures act { Acts result (machine.plan (configuration_in settings.now) event.now) held.old held.new }
     ensures step { (w : World) → Shows w (holding held.old)
@@ -48,7 +48,7 @@ fn act_held(
     settings: &Settings,
     event: &Event,
     held: &mut Held,
-) -> Result<Marks, StepError>
+) -> Result<Marks, ActError>
     requires ready { IsReady (configuration_in settings.now) event.now held.old }
     ensures act { Acts result (machine.plan (configuration_in settings.now) event.now) held.old held.new }
 {
@@ -71,7 +71,7 @@ fn act_call(
     held: &mut Held,
     by: u32,
     verb: &Verb,
-) -> Result<Marks, StepError>
+) -> Result<Marks, ActError>
     requires ready { IsReady (configuration_in settings.now) (events.Verb by verb.now) held.old }
     ensures act { Acts result (machine.plan (configuration_in settings.now) (events.Verb by verb.now)) held.old held.new }
 {

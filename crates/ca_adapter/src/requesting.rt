@@ -15,7 +15,7 @@ use ca_adapter_local::ca_adapter_turns::send_packet;
 use ca_adapter_local::ca_requester::{Turn, next_turn};
 use ca_adapter_local::perform;
 use ca_adapter_parts::{Held, QueueSlot};
-use ca_base::{Lot, QueueId, Reason, Settings, StepError};
+use ca_base::{ActError, Lot, QueueId, Reason, Settings};
 use ca_model::Marks;
 use std::alloc::Global;
 
@@ -28,7 +28,7 @@ pub fn request(
     held: &mut Held,
     queue: QueueId,
     lot: Lot,
-) -> Result<Marks, StepError>
+) -> Result<Marks, ActError>
     requires suffices { Suffices held.old (request_plan (configuration_in settings.now) queue lot) }
     requires parts { AreShown (configuration_in settings.now) held.old }
     requires step { IfSome (queue_in ((holding held.old).world.queue queue)) CanStep }
@@ -41,13 +41,13 @@ pub fn request(
     ensures act { Acts result (request_plan (configuration_in settings.now) queue lot) held.old held.new }
 {
     if !settings.has_queue(queue) {
-        return Err(StepError::NotReady(Reason::State));
+        return Err(ActError::NotReady(Reason::State));
     }
     let QueueSlot::Present(q) = held.queue(queue) else {
-        return Err(StepError::NotReady(Reason::State));
+        return Err(ActError::NotReady(Reason::State));
     };
     match next_turn(q) {
-        Err(reason) => Err(StepError::NotReady(reason)),
+        Err(reason) => Err(ActError::NotReady(reason)),
         Ok(Turn::Performs(found)) => perform(alloc, settings, held, queue, &found),
         Ok(Turn::Sends(found)) => send_packet(alloc, settings, held, queue, lot, &found),
     }

@@ -18,7 +18,7 @@ use ca_adapter_pairs::{destroy_qp, modify_qp, query_qp};
 use ca_adapter_parts::Held;
 use ca_adapter_polls::poll;
 use ca_adapter_posts::{post_recv, post_send, post_srq};
-use ca_base::{Bytes, Field, Place, Run, Settings, StepError};
+use ca_base::{ActError, Bytes, Field, Place, Run, Settings};
 use ca_model::{Marks, Refusal, Verb};
 
 /// A verb whose names are configured: the act of each.
@@ -27,7 +27,7 @@ pub(crate) fn act_verb(
     call: &Call<'_>,
     settings: &Settings,
     held: &mut Held,
-) -> Result<Marks, StepError>
+) -> Result<Marks, ActError>
     requires ready { IsReady (configuration_in settings.now) (events.Verb call.now.by call.now.verb.now) held.old }
     requires made { CanBeMade (events.Verb call.now.by call.now.verb.now) }
     requires named { machine.is_named (configuration_in settings.now) call.now.verb.now ≡ true }
@@ -123,7 +123,7 @@ fn store_at(
     held: &mut Held,
     place: Place,
     bytes: &Bytes,
-) -> Result<Marks, StepError>
+) -> Result<Marks, ActError>
     requires suffices { Suffices held.old (stored_plan settings.now call.now place bytes.now) }
     ensures { Acts result (stored_plan settings.now call.now place bytes.now) held.old held.new }
 {

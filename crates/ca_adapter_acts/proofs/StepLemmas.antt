@@ -1,8 +1,8 @@
 -- An act is a step in each world that shows the parts in hand. For proofs only.
 use Rattle.std.proofs.Common.{◌≡◌, ◌∙◌, sym, ap, subst, refl, Bool, true, false, List, [], ◌∷◌, Result, Ok, Err, true≢false}
 use Rattle.ca_base.specs.Configuration.{Configuration}
-use Rattle.ca_base.specs.declared.step.StepError.{StepError}
-use Rattle.ca_base.specs.declared.step.StepError.TheVariants as steps
+use Rattle.ca_base.specs.declared.step.ActError.{ActError}
+use Rattle.ca_base.specs.declared.step.ActError.TheVariants as steps
 use Rattle.ca_model.specs.Marks.{MarkList}
 use Rattle.ca_model.specs.declared.event.Event.{Event}
 use Rattle.ca_model.specs.machine.Frame.{AllPass, IsNoneOf, LeavesRest, SameOutcomeWhere, name_eq}
@@ -25,7 +25,7 @@ none-of test n (m ∷ ms) all fails = (by (name_eq m n) refl, none-of test n ms 
     by false e = refl
     by true e = absurd (true≢false (sym all.0 ∙ ap test (name-path m n e) ∙ fails))
 
-pub act-steps : (c : Configuration) (event : Event) (result : Result MarkList StepError) (old new : Holding) (w : World)
+pub act-steps : (c : Configuration) (event : Event) (result : Result MarkList ActError) (old new : Holding) (w : World)
     → Shows w old → AllPass old.has (touches old.world (plan c event))
     → IsAct result (step c old.world event) old new → IsStepOf result (step c w event) w old new
 act-steps c event result old new w shows suffices act =
@@ -34,7 +34,7 @@ act-steps c event result old new w shows suffices act =
     touched : AllPass old.has (touches w (plan c event))
     touched = subst (AllPass old.has) (event-touches-same old.has c event old.world w shows suffices) suffices
 
-    by : (r : Result MarkList StepError) (a b : Outcome) → SameOutcomeWhere old.has a b → LeavesRest (touches w (plan c event)) w b
+    by : (r : Result MarkList ActError) (a b : Outcome) → SameOutcomeWhere old.has a b → LeavesRest (touches w (plan c event)) w b
         → IsAct r a old new → IsStepOf r b w old new
     by (Ok m) (Did u ms) (Did v ns) same rest act = (
       act.0 ∙ same.0,

@@ -1,6 +1,6 @@
 ghost use Rattle.std.specs.Prelude.{Result};
 ghost use Rattle.ca_base.specs.Configuration.{Configuration};
-ghost use Rattle.ca_base.specs.declared.step.StepError.{StepError};
+ghost use Rattle.ca_base.specs.declared.step.ActError.{ActError};
 ghost use Rattle.ca_model.specs.Marks.{MarkList};
 ghost use Rattle.ca_model.specs.declared.event.Event.{Event};
 ghost use Rattle.ca_model.specs.machine.Frame.{AllPass};
@@ -15,7 +15,7 @@ ghost use Rattle.ca_adapter_acts.specs.Steps.{IsStepOf, Shows};
 /// that world: its marks or its reason are the step's, what is held afterwards is shown by the world after the step,
 /// the names held stay, and so does everything else.
 pub fn act_is_step()
-    ensures { (c : Configuration) (event : Event) (result : Result MarkList StepError) (old new : Holding) (w : World)
+    ensures { (c : Configuration) (event : Event) (result : Result MarkList ActError) (old new : Holding) (w : World)
         → Shows w old → AllPass old.has (touches old.world (plan c event))
         → IsAct result (step c old.world event) old new → IsStepOf result (step c w event) w old new }
 {}

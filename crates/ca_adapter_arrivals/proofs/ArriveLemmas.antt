@@ -15,8 +15,8 @@ use Rattle.ca_adapter_arrivals.proofs.RowLemmas.{Fills, arrival-fills, ends-so}
 use Rattle.ca_adapter_turns.proofs.TurnLemmas.{IsAroundHeld, around-held, puts-append, receives-fit, sends-fit}
 use Rattle.ca_base.specs.Configuration.{Configuration}
 use Rattle.ca_base.specs.declared.completion.Completion.{Completion}
-use Rattle.ca_base.specs.declared.step.StepError.{StepError}
-use Rattle.ca_base.specs.declared.step.StepError.TheVariants as steps
+use Rattle.ca_base.specs.declared.step.ActError.{ActError}
+use Rattle.ca_base.specs.declared.step.ActError.TheVariants as steps
 use Rattle.ca_base.specs.Sight.{Invalidation, Sight}
 use Rattle.ca_base.specs.objects.CompletionQueue.{CompletionQueue, after_puts}
 use Rattle.ca_base.specs.objects.Mailbox.{Mailbox}
@@ -308,7 +308,7 @@ module _ (c : Configuration) (h : Held) (name : QueueId) (q : QueuePair) (bytes 
   -- memory ended
   pub ends_unchanged : (new : Holding) (before made : MarkList) (memory : Memory)
       → HasArrived name (Err memory) (outcome_of h bytes envelope q).ending (outcome_of h bytes envelope q).ended q h new before made
-      → (result : Result MarkList StepError) → IsErrAnd result (λ e. e ≡ steps.Memory) → IsAct result (perform (holding h).world plan) (holding h) new
+      → (result : Result MarkList ActError) → IsErrAnd result (λ e. e ≡ steps.Memory) → IsAct result (perform (holding h).world plan) (holding h) new
   ends_unchanged new before made memory same result failed = let p = err_from_is_err_and result failed
       in subst (λ r. IsAct r (perform (holding h).world plan) (holding h) new) (sym (p.1 ∙ ap Err p.2)) (by (perform (holding h).world plan))
     where

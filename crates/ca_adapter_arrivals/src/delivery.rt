@@ -18,7 +18,7 @@ ghost use Rattle.ca_model.specs.machine.World.{Mailbox_of, Queue_of};
 use crate::arriving::{Incoming, arrive};
 use ca_adapter_parts::{Held, QueueSlot};
 use ca_adapter_turns::ca_adapter_acts::{Outlets, put_done};
-use ca_base::{Memory, QueueId, Reason, Settings, StepError};
+use ca_base::{ActError, Memory, QueueId, Reason, Settings};
 use ca_model::Marks;
 use std::alloc::Global;
 
@@ -31,7 +31,7 @@ pub fn deliver(
     held: &mut Held,
     queue: QueueId,
     index: u64,
-) -> Result<Marks, StepError>
+) -> Result<Marks, ActError>
     requires suffices { Suffices held.old (deliver_plan (configuration_in settings.now) queue index) }
     requires parts { AreShown (configuration_in settings.now) held.old }
     requires needs { next_part (holding held.old).parts (holding held.old).world
@@ -44,13 +44,13 @@ pub fn deliver(
     ensures act { Acts result (deliver_plan (configuration_in settings.now) queue index) held.old held.new }
 {
     if !settings.has_queue(queue) {
-        return Err(StepError::NotReady(Reason::NotKept));
+        return Err(ActError::NotReady(Reason::NotKept));
     }
     let Ok(_) = held.mailbox(queue).lend(index) else {
-        return Err(StepError::NotReady(Reason::NotKept));
+        return Err(ActError::NotReady(Reason::NotKept));
     };
     let QueueSlot::Present(q) = held.queue(queue) else {
-        return Err(StepError::NotReady(Reason::NotKept));
+        return Err(ActError::NotReady(Reason::NotKept));
     };
     let to = Outlets::of(q);
     let mut marks = Marks::empty(alloc);

@@ -19,7 +19,7 @@ ghost use Rattle.ca_model.specs.machine.World.{Queue_of};
 use crate::arriving::{Incoming, arrive};
 use ca_adapter_parts::{Held, QueueSlot};
 use ca_adapter_turns::ca_adapter_acts::{Call, Outlets, put_done};
-use ca_base::{Bytes, Memory, QueueId, Settings, StepError};
+use ca_base::{ActError, Bytes, Memory, QueueId, Settings};
 use ca_model::{Answer, Marks, Refusal};
 
 /// Inject: bytes arrive at a queue pair at once, as a packet that no envelope carried. Refused with `NoSuch` where there
@@ -30,7 +30,7 @@ pub fn inject(
     held: &mut Held,
     queue: QueueId,
     bytes: &Bytes,
-) -> Result<Marks, StepError>
+) -> Result<Marks, ActError>
     requires suffices { Suffices held.old
         (inject_plan (configuration_in settings.now) (call_of call.now) queue bytes.now) }
     requires parts { AreShown (configuration_in settings.now) held.old }

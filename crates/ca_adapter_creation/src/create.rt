@@ -18,7 +18,7 @@ use crate::creation::Creation;
 use crate::reservations::{has_too_little, reserve};
 use ca_adapter_acts::Call;
 use ca_adapter_parts::{Held, QueueSlot};
-use ca_base::{Field, Memory, QueueId, Settings, StepError};
+use ca_base::{ActError, Field, Memory, QueueId, Settings};
 use ca_model::{Answer, Marks, Refusal};
 use ca_qpstate::QueuePart;
 use std::alloc::Global;
@@ -32,7 +32,7 @@ pub fn create_qp(
     settings: &Settings,
     held: &mut Held,
     creation: &Creation,
-) -> Result<Marks, StepError>
+) -> Result<Marks, ActError>
     requires small { creation.now.slot.slot < 256 }
     requires suffices { Suffices held.old
         (create_qp_plan (configuration_in settings.now) (call_of call.now) creation.now) }
@@ -89,12 +89,7 @@ fn receive_room(held: &Held, creation: &Creation) -> Option<u16>
 
 /// Makes the queue pair, for whose reservations there is room. All memory is taken before anything changes.
 #[tactic(auto, using(ca_adapter_parts::proofs::HoldLemmas::put_control, ca_adapter_parts::proofs::HoldLemmas::put_queue, ca_adapter_parts::proofs::HoldLemmas::put_mailbox))]
-fn make(
-    call: &Call<'_>,
-    held: &mut Held,
-    creation: &Creation,
-    room: u16,
-) -> Result<Marks, StepError>
+fn make(call: &Call<'_>, held: &mut Held, creation: &Creation, room: u16) -> Result<Marks, ActError>
     requires small { creation.now.slot.slot < 256 }
     requires domain { (holding held.old).has (Domain_of creation.now.slot.domain) ≡ true }
     requires queue { (holding held.old).has (Queue_of (queue_of creation.now.slot)) ≡ true }

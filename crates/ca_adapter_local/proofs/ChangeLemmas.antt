@@ -12,7 +12,7 @@ use Rattle.ca_base.specs.Sight.{Invalidation}
 use Rattle.ca_base.specs.declared.refusals.OpRefusal.{OpRefusal}
 use Rattle.ca_base.specs.declared.request.SendOp.{SendOp}
 use Rattle.ca_base.specs.declared.request.SendOp.TheVariants as ops
-use Rattle.ca_base.specs.declared.step.StepError.TheVariants as steps
+use Rattle.ca_base.specs.declared.step.ActError.TheVariants as steps
 use Rattle.ca_base.specs.objects.CompletionQueue.{CompletionQueue}
 use Rattle.ca_base.specs.objects.QueuePair.{Present, QueuePair, QueueSlot}
 use Rattle.ca_base.specs.objects.Region.{after_region_invalidation, with_window_unbound}

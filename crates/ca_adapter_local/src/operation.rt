@@ -33,7 +33,7 @@ use ca_adapter_parts::{Held, QueueSlot};
 use ca_adapter_reach::Reached;
 use ca_adapter_turns::ca_adapter_acts::{Outlets, put_done};
 use ca_adapter_turns::ca_requester_sends::{Found, local_done, next_local};
-use ca_base::{Memory, OpRefusal, QueueId, SendOp, Settings, StepError, WindowCount};
+use ca_base::{ActError, Memory, OpRefusal, QueueId, SendOp, Settings, WindowCount};
 use ca_localops::OpError;
 use ca_model::Marks;
 use ca_qpstate::QueuePart;
@@ -50,7 +50,7 @@ pub fn perform(
     held: &mut Held,
     queue: QueueId,
     found: &Found,
-) -> Result<Marks, StepError>
+) -> Result<Marks, ActError>
     requires suffices { (lot : AnyLot) → Suffices held.old (request_plan (configuration_in settings.now) queue lot) }
     requires parts { AreShown (configuration_in settings.now) held.old }
     requires configured { has_queue (configuration_in settings.now) queue ≡ true }
@@ -68,7 +68,7 @@ pub fn perform(
     let to = Outlets::of(q);
     let mut marks = Marks::empty(alloc);
     let Ok(()) = step(alloc, settings, held, queue, found, &mut marks) else {
-        return Err(StepError::Memory);
+        return Err(ActError::Memory);
     };
     put_done(held, &to, marks.as_slice());
     Ok(marks)

@@ -7,7 +7,7 @@ ghost use Rattle.ca_adapter_acts.specs.Act.{Acts, Suffices};
 use ca_adapter_acts::Call;
 use ca_adapter_parts::Held;
 use ca_base::limits::MAX_CAPACITY;
-use ca_base::{Field, Slot, StepError};
+use ca_base::{ActError, Field, Slot};
 use ca_cq::Cq;
 use ca_model::{Answer, Marks, Refusal};
 
@@ -20,7 +20,7 @@ pub fn create_cq(
     held: &mut Held,
     slot: Slot,
     capacity: u16,
-) -> Result<Marks, StepError>
+) -> Result<Marks, ActError>
     requires suffices { Suffices held.old (create_cq_plan (call_of call.now) slot capacity) }
     requires few { ((holding held.old).world.domain slot.domain).objects < u32.MAX }
     ensures act { Acts result (create_cq_plan (call_of call.now) slot capacity) held.old held.new }
@@ -46,7 +46,7 @@ pub fn create_cq(
 /// the completion queue. `Memory` leaves all as it was.
 /// Source: InfiniBand Architecture Specification Volume 1, the chapter on the verbs, Destroy Completion Queue.
 #[tactic(auto, using(ca_adapter_parts::proofs::HoldLemmas::put_cq, ca_adapter_parts::proofs::HoldLemmas::put_control))]
-pub fn destroy_cq(call: &Call<'_>, held: &mut Held, slot: Slot) -> Result<Marks, StepError>
+pub fn destroy_cq(call: &Call<'_>, held: &mut Held, slot: Slot) -> Result<Marks, ActError>
     requires suffices { Suffices held.old (destroy_cq_plan (call_of call.now) slot) }
     ensures act { Acts result (destroy_cq_plan (call_of call.now) slot) held.old held.new }
 {

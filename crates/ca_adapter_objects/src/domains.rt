@@ -4,14 +4,14 @@ ghost use Rattle.ca_adapter_acts.specs.Act.{Acts, Suffices};
 
 use ca_adapter_acts::Call;
 use ca_adapter_parts::Held;
-use ca_base::{DomainId, StepError};
+use ca_base::{ActError, DomainId};
 use ca_model::{Answer, Marks, Refusal};
 
 /// AllocPd: the protection domain is allocated, with no objects. Refused, in this order: DomainTaken where it is allocated.
 /// `Memory` leaves all as it was.
 /// Source: InfiniBand Architecture Specification Volume 1, the chapter on the verbs, Allocate Protection Domain.
 #[tactic(auto, using(ca_adapter_parts::proofs::HoldLemmas::put_control))]
-pub fn alloc_pd(call: &Call<'_>, held: &mut Held, domain: DomainId) -> Result<Marks, StepError>
+pub fn alloc_pd(call: &Call<'_>, held: &mut Held, domain: DomainId) -> Result<Marks, ActError>
     requires suffices { Suffices held.old (alloc_pd_plan (call_of call.now) domain) }
     ensures act { Acts result (alloc_pd_plan (call_of call.now) domain) held.old held.new }
 {
@@ -28,7 +28,7 @@ pub fn alloc_pd(call: &Call<'_>, held: &mut Held, domain: DomainId) -> Result<Ma
 /// where it has an object. `Memory` leaves all as it was.
 /// Source: InfiniBand Architecture Specification Volume 1, the chapter on the verbs, Deallocate Protection Domain.
 #[tactic(auto, using(ca_adapter_parts::proofs::HoldLemmas::put_control))]
-pub fn dealloc_pd(call: &Call<'_>, held: &mut Held, domain: DomainId) -> Result<Marks, StepError>
+pub fn dealloc_pd(call: &Call<'_>, held: &mut Held, domain: DomainId) -> Result<Marks, ActError>
     requires suffices { Suffices held.old (dealloc_pd_plan (call_of call.now) domain) }
     ensures act { Acts result (dealloc_pd_plan (call_of call.now) domain) held.old held.new }
 {

@@ -6,7 +6,7 @@ ghost use Rattle.ca_adapter_acts.specs.Calls.{call_of};
 use ca_adapter_acts::Call;
 use ca_adapter_parts::Held;
 use ca_base::limits::MAX_STORE_BYTES;
-use ca_base::{Bytes, Field, Place, Run, StepError};
+use ca_base::{ActError, Bytes, Field, Place, Run};
 use ca_model::{Answer, Mark, Marks, Refusal};
 
 /// Store: the host writes its own memory, from the first place of `at` on, in a buffer of `buffer_length` bytes. Refused,
@@ -18,7 +18,7 @@ pub fn store(
     at: Run,
     buffer_length: u32,
     bytes: &Bytes,
-) -> Result<Marks, StepError>
+) -> Result<Marks, ActError>
     requires suffices { Suffices held.old (store_plan (call_of call.now) at buffer_length bytes.now) }
     requires count { length bytes.now ≡ at.length }
     ensures act { Acts result (store_plan (call_of call.now) at buffer_length bytes.now) held.old held.new }
@@ -51,7 +51,7 @@ pub fn load(
     held: &mut Held,
     at: Run,
     buffer_length: u32,
-) -> Result<Marks, StepError>
+) -> Result<Marks, ActError>
     requires suffices { Suffices held.old (load_plan (call_of call.now) at buffer_length) }
     ensures act { Acts result (load_plan (call_of call.now) at buffer_length) held.old held.new }
 {

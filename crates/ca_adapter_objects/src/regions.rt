@@ -7,7 +7,7 @@ ghost use Rattle.ca_adapter_acts.specs.Calls.{call_of};
 use ca_adapter_acts::Call;
 use ca_adapter_parts::Held;
 use ca_base::limits::MAX_PAGES;
-use ca_base::{Field, RegistrationError, Rights, Run, Slot, StepError};
+use ca_base::{ActError, Field, RegistrationError, Rights, Run, Slot};
 use ca_model::{Answer, Mark, Marks, Refusal};
 
 /// RegMr: registers the bytes of `at`, which lie in a buffer of `buffer_length` bytes, as a memory region with these rights,
@@ -22,7 +22,7 @@ pub fn reg_mr(
     at: Run,
     buffer_length: u32,
     rights: Rights,
-) -> Result<Marks, StepError>
+) -> Result<Marks, ActError>
     requires suffices { Suffices held.old (reg_mr_plan (call_of call.now) slot at buffer_length rights) }
     requires few { ((holding held.old).world.domain slot.domain).objects < u32.MAX }
     ensures act { Acts result (reg_mr_plan (call_of call.now) slot at buffer_length rights) held.old held.new }
@@ -48,7 +48,7 @@ pub fn reg_mr(
         Err(RegistrationError::Refused(error)) => {
             Ok(ready.answer(Answer::Refused(Refusal::from(error))))
         }
-        Err(RegistrationError::Memory) => Err(StepError::Memory),
+        Err(RegistrationError::Memory) => Err(ActError::Memory),
     }
 }
 
@@ -56,12 +56,7 @@ pub fn reg_mr(
 /// where it has no pages or more than `MAX_PAGES`. `Memory` leaves all as it was.
 /// Source: InfiniBand Architecture Specification Volume 1, the chapter on the verbs, Allocate L_Key.
 #[tactic(auto, using(ca_adapter_parts::proofs::HoldLemmas::put_region, ca_adapter_parts::proofs::HoldLemmas::put_control))]
-pub fn alloc_mr(
-    call: &Call<'_>,
-    held: &mut Held,
-    slot: Slot,
-    pages: u16,
-) -> Result<Marks, StepError>
+pub fn alloc_mr(call: &Call<'_>, held: &mut Held, slot: Slot, pages: u16) -> Result<Marks, ActError>
     requires suffices { Suffices held.old (alloc_mr_plan (call_of call.now) slot pages) }
     requires few { ((holding held.old).world.domain slot.domain).objects < u32.MAX }
     ensures act { Acts result (alloc_mr_plan (call_of call.now) slot pages) held.old held.new }
@@ -86,7 +81,7 @@ pub fn alloc_mr(
 /// `Region::deregister` says: NoSuch, WindowsBound. `Memory` leaves all as it was.
 /// Source: InfiniBand Architecture Specification Volume 1, the chapter on the verbs, Deregister Memory Region.
 #[tactic(auto, using(ca_adapter_parts::proofs::HoldLemmas::put_region, ca_adapter_parts::proofs::HoldLemmas::put_control, ca_adapter_parts::proofs::HoldLemmas::kept_region, crate::proofs::RegionLemmas::dereg_refused))]
-pub fn dereg_mr(call: &Call<'_>, held: &mut Held, slot: Slot) -> Result<Marks, StepError>
+pub fn dereg_mr(call: &Call<'_>, held: &mut Held, slot: Slot) -> Result<Marks, ActError>
     requires suffices { Suffices held.old (dereg_mr_plan (call_of call.now) slot) }
     ensures act { Acts result (dereg_mr_plan (call_of call.now) slot) held.old held.new }
 {

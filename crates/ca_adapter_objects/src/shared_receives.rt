@@ -6,7 +6,7 @@ ghost use Rattle.ca_adapter_acts.specs.Calls.{call_of};
 
 use ca_adapter_acts::{Call, is_no_depth};
 use ca_adapter_parts::Held;
-use ca_base::{Field, Slot, StepError};
+use ca_base::{ActError, Field, Slot};
 use ca_model::{Answer, Marks, Refusal};
 use ca_srq::Srq;
 
@@ -19,7 +19,7 @@ pub fn create_srq(
     held: &mut Held,
     slot: Slot,
     depth: u16,
-) -> Result<Marks, StepError>
+) -> Result<Marks, ActError>
     requires suffices { Suffices held.old (create_srq_plan (call_of call.now) slot depth) }
     requires few { ((holding held.old).world.domain slot.domain).objects < u32.MAX }
     ensures act { Acts result (create_srq_plan (call_of call.now) slot depth) held.old held.new }
@@ -45,7 +45,7 @@ pub fn create_srq(
 /// uses it. Receives that wait go with it. `Memory` leaves all as it was.
 /// Source: InfiniBand Architecture Specification Volume 1, the chapter on the verbs, Destroy Shared Receive Queue.
 #[tactic(auto, using(ca_adapter_parts::proofs::HoldLemmas::put_srq, ca_adapter_parts::proofs::HoldLemmas::put_control))]
-pub fn destroy_srq(call: &Call<'_>, held: &mut Held, slot: Slot) -> Result<Marks, StepError>
+pub fn destroy_srq(call: &Call<'_>, held: &mut Held, slot: Slot) -> Result<Marks, ActError>
     requires suffices { Suffices held.old (destroy_srq_plan (call_of call.now) slot) }
     ensures act { Acts result (destroy_srq_plan (call_of call.now) slot) held.old held.new }
 {

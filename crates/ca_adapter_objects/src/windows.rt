@@ -8,14 +8,14 @@ ghost use Rattle.ca_adapter_acts.specs.Calls.{call_of};
 
 use ca_adapter_acts::Call;
 use ca_adapter_parts::{Held, QueueSlot};
-use ca_base::{Field, QueueId, Slot, StepError};
+use ca_base::{ActError, Field, QueueId, Slot};
 use ca_model::{Answer, Mark, Marks, Refusal};
 
 /// AllocMw: a memory window of type 1 or 2, which is bound to no region. Refused, in this order: NoDomain, SlotTaken,
 /// OutOfRange where `kind` is neither 1 nor 2. `Memory` leaves all as it was.
 /// Source: InfiniBand Architecture Specification Volume 1, the chapter on the verbs, Allocate Memory Window.
 #[tactic(auto, using(ca_adapter_parts::proofs::HoldLemmas::put_window, ca_adapter_parts::proofs::HoldLemmas::put_control))]
-pub fn alloc_mw(call: &Call<'_>, held: &mut Held, slot: Slot, kind: u8) -> Result<Marks, StepError>
+pub fn alloc_mw(call: &Call<'_>, held: &mut Held, slot: Slot, kind: u8) -> Result<Marks, ActError>
     requires suffices { Suffices held.old (alloc_mw_plan (call_of call.now) slot kind) }
     requires few { ((holding held.old).world.domain slot.domain).objects < u32.MAX }
     ensures act { Acts result (alloc_mw_plan (call_of call.now) slot kind) held.old held.new }
@@ -40,7 +40,7 @@ pub fn alloc_mw(call: &Call<'_>, held: &mut Held, slot: Slot, kind: u8) -> Resul
 /// have one window fewer. Refused: NoSuch where the slot is vacant. `Memory` leaves all as it was.
 /// Source: InfiniBand Architecture Specification Volume 1, the chapter on the verbs, Deallocate Memory Window.
 #[tactic(auto, using(ca_adapter_parts::proofs::HoldLemmas::put_window, ca_adapter_parts::proofs::HoldLemmas::put_control, ca_adapter_parts::proofs::HoldLemmas::put_region))]
-pub fn dealloc_mw(call: &Call<'_>, held: &mut Held, slot: Slot) -> Result<Marks, StepError>
+pub fn dealloc_mw(call: &Call<'_>, held: &mut Held, slot: Slot) -> Result<Marks, ActError>
     requires suffices { Suffices held.old (dealloc_mw_plan (call_of call.now) slot) }
     requires counted { IfSome ((holding held.old).world.window slot).binding
         (λ b. 0 < ((holding held.old).world.region (region_under ((holding held.old).world.window slot) b)).bound) }

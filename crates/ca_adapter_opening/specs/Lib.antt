@@ -1,3 +1,4 @@
 pub mod Opening
 pub mod Added
 pub mod Zeros
+pub mod Limits

@@ -18,6 +18,6 @@ mod slots;
 mod zeros;
 
 pub use laws::{opening_parts_are_of_their_kinds, opening_parts_are_the_opening_world};
-pub use limits::{fit_contents, is_limited};
+pub use limits::{fit_contents, is_limited, is_within};
 pub use row::parts;
 pub use zeros::zero_contents;

@@ -3,6 +3,7 @@ ghost use Rattle.std.specs.List.{AllByRecursion};
 ghost use Rattle.ca_base.specs.Configuration.{adapter_of, configuration_of};
 ghost use Rattle.ca_base.specs.declared.limits.TheConstants.{MAX_ADAPTERS, MAX_BUFFERS, MAX_BUFFER_BYTES};
 ghost use Rattle.ca_model.specs.machine.Sound.{AreLimited, IsLimitedAdapter};
+ghost use Rattle.ca_adapter_opening.specs.Limits.{IsWithin};
 ghost use Rattle.ca_adapter_opening.specs.Opening as machine;
 
 use ca_base::limits::{
@@ -12,18 +13,30 @@ use ca_base::limits::{
 use ca_base::{AdapterConfig, Bytes, Config, part_count};
 use ca_model::Opening;
 
-/// Whether a configuration keeps to the limits of this profile: each adapter, the bytes of all buffers together, the
-/// parts and the events. A caller asks it before it opens a fabric.
+/// Whether a configuration keeps to the limits of this profile: each of its numbers, and the parts. A caller asks it before
+/// it opens a fabric.
 pub fn is_limited(config: &Config) -> bool
     ensures yes { IsTrue result → AreLimited (configuration_of config.now) }
     ensures no { AreLimited (configuration_of config.now) → IsTrue result }
 {
+    let within = is_within(config);
+    let parts = part_count(config);
+    within && parts <= u64::from(MAX_PARTS)
+}
+
+/// Whether each number of a configuration is within its limits: there is an adapter, each keeps to its own limits, and so do
+/// the bytes of all buffers together and the events. Of the number of parts it says nothing.
+pub fn is_within(config: &Config) -> bool
+    ensures yes { IsTrue result → IsWithin (configuration_of config.now) }
+    ensures no { IsWithin (configuration_of config.now) → IsTrue result }
+{
     let adapters = config.adapters.as_slice();
     let each = are_limited_adapters(adapters);
     let bytes = byte_count(adapters);
-    let parts = part_count(config);
-    each && bytes <= u64::from(MAX_TOTAL_BYTES)
-        && parts <= u64::from(MAX_PARTS)
+    !adapters.is_empty()
+        && each
+        && bytes <= u64::from(MAX_TOTAL_BYTES)
+        && config.events >= 1
         && config.events <= MAX_EVENTS
 }
 
@@ -47,6 +60,7 @@ fn is_limited_adapter(adapter: &AdapterConfig) -> bool
 {
     let sizes = are_limited_sizes(adapter.buffers.as_slice());
     sizes
+        && adapter.domains >= 1
         && adapter.domains <= MAX_DOMAINS
         && adapter.regions <= MAX_REGIONS
         && adapter.windows <= MAX_WINDOWS
@@ -55,13 +69,15 @@ fn is_limited_adapter(adapter: &AdapterConfig) -> bool
         && adapter.qps <= MAX_QPS
 }
 
-/// Whether each buffer has few enough bytes.
+/// Whether each buffer has a byte at least, and few enough.
 fn are_limited_sizes(sizes: &[u32]) -> bool
-    ensures yes { IsTrue result → AllByRecursion (λ bytes. bytes ≤ MAX_BUFFER_BYTES) sizes.now }
-    ensures no { AllByRecursion (λ bytes. bytes ≤ MAX_BUFFER_BYTES) sizes.now → IsTrue result }
+    ensures least { IsTrue result → AllByRecursion (λ bytes. 1 ≤ bytes) sizes.now }
+    ensures most { IsTrue result → AllByRecursion (λ bytes. bytes ≤ MAX_BUFFER_BYTES) sizes.now }
+    ensures no { AllByRecursion (λ bytes. 1 ≤ bytes) sizes.now → AllByRecursion (λ bytes. bytes ≤ MAX_BUFFER_BYTES) sizes.now
+        → IsTrue result }
 {
     for size in sizes {
-        if *size > MAX_BUFFER_BYTES {
+        if *size == 0 || *size > MAX_BUFFER_BYTES {
             return false;
         }
     }

@@ -16,14 +16,14 @@ use crate::departure::{Departure, depart};
 use crate::mailbox::close;
 use ca_adapter_acts::Call;
 use ca_adapter_parts::{Held, QueueSlot};
-use ca_base::{DomainId, QueueId, Slot, StepError};
+use ca_base::{ActError, DomainId, QueueId, Slot};
 use ca_model::{Answer, Marks, Refusal};
 
 /// DestroyQp: its completions are removed, its reservations end, its mailbox accepts nobody, and the places that it
 /// holds in a shared receive queue are free. The slot keeps the incarnation and the count of timers. The refusals in
 /// order are `NoSuch` and `WindowsBound`; nothing changes at a refusal or without memory.
 #[tactic(auto, using(crate::proofs::DestroyLemmas::destroy_held, crate::proofs::DestroyLemmas::none_there, crate::proofs::DestroyLemmas::destroy_refused))]
-pub fn destroy_qp(call: &Call<'_>, held: &mut Held, slot: Slot) -> Result<Marks, StepError>
+pub fn destroy_qp(call: &Call<'_>, held: &mut Held, slot: Slot) -> Result<Marks, ActError>
     requires small { slot.slot < 256 }
     requires suffices { Suffices held.old (destroy_qp_plan (call_of call.now) slot) }
     requires queue { IsQueueOf (queue_of slot) ((holding held.old).world.queue (queue_of slot)) }

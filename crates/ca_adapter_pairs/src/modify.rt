@@ -17,7 +17,7 @@ use crate::change::change_around;
 use crate::flush::flushed_by;
 use ca_adapter_acts::Call;
 use ca_adapter_parts::{Held, QueueSlot};
-use ca_base::{Change, QueueId, Settings, Slot, StepError};
+use ca_base::{ActError, Change, QueueId, Settings, Slot};
 use ca_model::{Answer, Marks, Refusal};
 use ca_qpstate::QueuePart;
 
@@ -32,7 +32,7 @@ pub fn modify_qp(
     held: &mut Held,
     slot: Slot,
     change: &Change,
-) -> Result<Marks, StepError>
+) -> Result<Marks, ActError>
     requires small { slot.slot < 256 }
     requires suffices { Suffices held.old
         (modify_qp_plan (configuration_in settings.now) (call_of call.now) slot change.now) }

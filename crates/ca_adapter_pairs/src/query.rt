@@ -5,13 +5,13 @@ ghost use Rattle.ca_adapter_acts.specs.Calls.{call_of};
 
 use ca_adapter_acts::Call;
 use ca_adapter_parts::{Held, QueueSlot};
-use ca_base::{QueueId, Slot, StepError};
+use ca_base::{ActError, QueueId, Slot};
 use ca_model::{Answer, Marks, Refusal};
 
 /// QueryQp: the state of a queue pair, its incarnation, and how many places its send queue and its own receive queue
 /// occupy, none with a shared receive queue. Refused: NoSuch where the slot is vacant. It changes nothing.
 /// Source: InfiniBand Architecture Specification Volume 1, the chapter on the verbs, Query Queue Pair.
-pub fn query_qp(call: &Call<'_>, held: &Held, slot: Slot) -> Result<Marks, StepError>
+pub fn query_qp(call: &Call<'_>, held: &Held, slot: Slot) -> Result<Marks, ActError>
     requires small { slot.slot < 256 }
     requires suffices { Suffices held.now (query_qp_plan (call_of call.now) slot) }
     ensures act { Acts result (query_qp_plan (call_of call.now) slot) held.now held.now }

@@ -19,7 +19,7 @@ ghost use Rattle.ca_adapter_polls.specs.Polling.{after_freeing_all, after_freein
 use ca_adapter_acts::Call;
 use ca_adapter_parts::{Held, QueueSlot};
 use ca_base::limits::MAX_POLLED;
-use ca_base::{Completion, Field, Memory, Reason, Slot, StepError};
+use ca_base::{ActError, Completion, Field, Memory, Reason, Slot};
 use ca_cq::Cq;
 use ca_model::{Answer, Completions, Mark, Marks, Refusal};
 use ca_qpstate::QueuePart;
@@ -35,7 +35,7 @@ pub fn poll(
     slot: Slot,
     n: u8,
     least: u8,
-) -> Result<Marks, StepError>
+) -> Result<Marks, ActError>
     requires suffices { Suffices held.old (poll_plan (call_of call.now) slot n least) }
     requires places { IfSome ((holding held.old).world.cq slot) (CanFreeEach slot (holding held.old).world) }
     requires once { IfSome ((holding held.old).world.cq slot) AreOfOwnPlaces }
@@ -51,7 +51,7 @@ pub fn poll(
     let polled = first_completions(call.alloc, cq, n)?;
     let count = polled.as_slice().len() as u8;
     if count < least {
-        return Err(StepError::NotReady(Reason::Empty));
+        return Err(ActError::NotReady(Reason::Empty));
     }
     let marks = call.answer_poll(Answer::Polled(polled))?;
     free_all(held, slot, polled_in(&marks));

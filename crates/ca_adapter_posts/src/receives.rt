@@ -15,7 +15,7 @@ use crate::flushes::{flush_in_error, flushed_with_receive};
 use crate::refusals::recv_refusal;
 use ca_adapter_acts::{Call, completions_to, put_completions};
 use ca_adapter_parts::{Held, QueueSlot};
-use ca_base::{Memory, QueueId, RecvRequest, Slot, StepError};
+use ca_base::{ActError, Memory, QueueId, RecvRequest, Slot};
 use ca_model::{Answer, Marks, Refusal};
 use ca_qpstate::QueuePart;
 
@@ -28,7 +28,7 @@ pub fn post_recv(
     held: &mut Held,
     slot: Slot,
     request: &RecvRequest,
-) -> Result<Marks, StepError>
+) -> Result<Marks, ActError>
     requires small { slot.slot < 256 }
     requires suffices { Suffices held.old (post_recv_plan (call_of call.now) slot request.now) }
     requires queue { IsQueueOf (queue_of slot) ((holding held.old).world.queue (queue_of slot)) }

@@ -20,7 +20,7 @@ use crate::refusals::send_refusal;
 use crate::states::is_error;
 use ca_adapter_acts::{Call, completions_to, copy_of_send, copy_of_small, put_completions};
 use ca_adapter_parts::{Held, QueueSlot};
-use ca_base::{Memory, PostedSend, QueueId, SendRequest, Slot, StepError};
+use ca_base::{ActError, Memory, PostedSend, QueueId, SendRequest, Slot};
 use ca_model::{Answer, Marks, Refusal};
 use ca_qpstate::QueuePart;
 
@@ -34,7 +34,7 @@ pub fn post_send(
     held: &mut Held,
     slot: Slot,
     request: &SendRequest,
-) -> Result<Marks, StepError>
+) -> Result<Marks, ActError>
     requires small { slot.slot < 256 }
     requires window { IfSome (drawing.window_of_bind slot request.now.op) (λ x. x.slot < 32768) }
     requires suffices { Suffices held.old (post_send_plan (call_of call.now) slot request.now) }
@@ -70,7 +70,7 @@ fn post_loudly(
     held: &mut Held,
     slot: Slot,
     request: &SendRequest,
-) -> Result<Marks, StepError>
+) -> Result<Marks, ActError>
     requires window { IfSome (drawing.window_of_bind slot request.now.op) (λ x. x.slot < 32768) }
     requires suffices { Suffices held.old (post_send_plan (call_of call.now) slot request.now) }
     requires queue { IsQueueOf (queue_of slot) ((holding held.old).world.queue (queue_of slot)) }

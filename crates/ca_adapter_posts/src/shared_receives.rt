@@ -8,7 +8,7 @@ use crate::receives::copy_of;
 use ca_adapter_acts::Call;
 use ca_adapter_parts::Held;
 use ca_base::limits::MAX_MESSAGE_BYTES;
-use ca_base::{RecvRequest, Slot, StepError};
+use ca_base::{ActError, RecvRequest, Slot};
 use ca_model::{Answer, Marks, Refusal, list_length};
 
 /// PostSrq: a receive waits in the shared receive queue behind the others. Refused, in this order: NoSuch where the slot is
@@ -20,7 +20,7 @@ pub fn post_srq(
     held: &mut Held,
     slot: Slot,
     request: &RecvRequest,
-) -> Result<Marks, StepError>
+) -> Result<Marks, ActError>
     requires suffices { Suffices held.old (post_srq_plan (call_of call.now) slot request.now) }
     requires next { IfSome ((holding held.old).world.srq slot).srq (λ s. suc s.next < 2 ^ 64) }
     ensures act { Acts result (post_srq_plan (call_of call.now) slot request.now) held.old held.new }

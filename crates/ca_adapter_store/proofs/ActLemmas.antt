@@ -5,8 +5,8 @@ use Rattle.ca_adapter.specs.ca_adapter_acts.Steps.{IsStepOf, Shows}
 use Rattle.ca_adapter.proofs.WorldLemmas.{part-of-held}
 use Rattle.ca_adapter.specs.Ready.{IsReady}
 use Rattle.ca_base.specs.Configuration.{Configuration}
-use Rattle.ca_base.specs.declared.step.StepError.{StepError}
-use Rattle.ca_base.specs.declared.step.StepError.TheVariants as steps
+use Rattle.ca_base.specs.declared.step.ActError.{ActError}
+use Rattle.ca_base.specs.declared.step.ActError.TheVariants as steps
 use Rattle.ca_adapter_parts.specs.declared.held.Held.{Held}
 use Rattle.ca_adapter_parts.specs.declared.part.Part.{Part}
 use Rattle.ca_adapter_parts.specs.HeldView.{holding}
@@ -39,7 +39,7 @@ pub configured_names : (c : Configuration) (row new : List Part) (h k : Held) �
 configured_names c row new h k of together p held = (together of.world of.together).hand p held
 
 -- the event is acted, and the parts are given back
-pub acted : (c : Configuration) (event : Event) (w : World) (row new : List Part) (h k l : Held) (result : Result MarkList StepError) → AreTogether c w row (holding h)
+pub acted : (c : Configuration) (event : Event) (w : World) (row new : List Part) (h k l : Held) (result : Result MarkList ActError) → AreTogether c w row (holding h)
     → Acts result (plan c event) h k → ((w : World) → Shows w (holding h) → IsStepOf result (step c w event) w (holding h) (holding k))
     → ((w : World) → AreTogether c w row (holding k) → AreTogether c w new (holding l))
     → IsMade result (step c w event) w (λ v. AreTogether c v new (holding l))
@@ -49,7 +49,7 @@ acted c event w row new h k l result one act each back =
     same : holding k ≡ holding h → AreTogether c w new (holding l)
     same is = back w (subst (AreTogether c w row) (sym is) one)
 
-    by : (r : Result MarkList StepError) (o own : Outcome) → IsAct r own (holding h) (holding k) → IsStepOf r o w (holding h) (holding k)
+    by : (r : Result MarkList ActError) (o own : Outcome) → IsAct r own (holding h) (holding k) → IsStepOf r o w (holding h) (holding k)
         → IsStepOf r own (holding h).world (holding h) (holding k) → IsMade r o w (λ v. AreTogether c v new (holding l))
     by (Ok m) (Did v ms) (Did u ns) act made there = (
       made.0,

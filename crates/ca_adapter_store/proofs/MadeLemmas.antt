@@ -1,8 +1,8 @@
 -- What an event makes of a row, from what it makes of its parts. For proofs only.
 use Rattle.std.proofs.Common.{◌≡◌, ◌∙◌, sym, ap, subst, ℕ, suc, ◌+◌, ◌<◌, ◌-◌, ◌^◌, arith, Result, Ok, Err}
 use Rattle.ca_base.specs.Configuration.{Configuration, configuration_in}
-use Rattle.ca_base.specs.declared.step.StepError.{StepError}
-use Rattle.ca_base.specs.declared.step.StepError.TheVariants as steps
+use Rattle.ca_base.specs.declared.step.ActError.{ActError}
+use Rattle.ca_base.specs.declared.step.ActError.TheVariants as steps
 use Rattle.ca_adapter_parts.specs.HeldView.{Holding, holding}
 use Rattle.ca_model.specs.Marks.{MarkList}
 use Rattle.ca_model.specs.declared.event.Event.{Event}
@@ -17,7 +17,7 @@ use Rattle.ca_adapter_store.specs.Rows.{AreTogether, IsEmpty, IsMade, IsRow, IsR
 use Rattle.ca_adapter.proofs.of_ca_law_parts.Worlds.LeadsLemmas.{after-event}
 use Rattle.ca_adapter.specs.ca_law_parts.Worlds.{IsWorldAfter}
 
-pub row_made : (c : Configuration) (event : Event) (w : World) (old new : Row) (result : Result MarkList StepError) → suc old.count < 2 ^ 32 - 1 → CanBeMade event
+pub row_made : (c : Configuration) (event : Event) (w : World) (old new : Row) (result : Result MarkList ActError) → suc old.count < 2 ^ 32 - 1 → CanBeMade event
     → IsRowOf c w old → new.settings ≡ old.settings → new.count ≡ count_after result old.count → IsEmpty (holding new.held)
     → IsMade result (step c w event) w (λ v. AreTogether c v new.parts.items (holding new.held))
     → IsMade result (step c w event) w (λ v. IsRowOf c v new)
@@ -30,7 +30,7 @@ row_made c event w old new result few made row settings count empty is =
     stays : new.count ≡ old.count → AreTogether c w new.parts.items (holding new.held) → IsRowOf c w new
     stays count together = record { settings = same; after = subst (λ n. IsWorldAfter c n w) (sym count) row.after; together = together; empty = empty }
 
-    by : (r : Result MarkList StepError) (o : Outcome) → new.count ≡ count_after r old.count → Afterwards (IsWorldAfter c (suc old.count)) o
+    by : (r : Result MarkList ActError) (o : Outcome) → new.count ≡ count_after r old.count → Afterwards (IsWorldAfter c (suc old.count)) o
         → IsMade r o w (λ v. AreTogether c v new.parts.items (holding new.held)) → IsMade r o w (λ v. IsRowOf c v new)
     by (Ok m) (Did v ms) count after is = (
       is.0,
@@ -43,7 +43,7 @@ row_made c event w old new result few made row settings count empty is =
     by (Err steps.Memory) (NotReady why) count after is = stays count is
 
 -- the same from what was made of the parts, with the room that the hand got before
-pub row_made_by : (event : Event) (old new : Row) (h : Holding) (result by : Result MarkList StepError) → suc old.count < 2 ^ 32 - 1 → CanBeMade event
+pub row_made_by : (event : Event) (old new : Row) (h : Holding) (result by : Result MarkList ActError) → suc old.count < 2 ^ 32 - 1 → CanBeMade event
     → new.settings ≡ old.settings → new.count ≡ count_after result old.count → IsEmpty (holding new.held) → h ≡ holding old.held → by ≡ result
     → ((w : World) → AreTogether (configuration_in old.settings) w old.parts.items h
     → IsMade by (step (configuration_in old.settings) w event) w (λ v. AreTogether (configuration_in old.settings) v new.parts.items (holding new.held)))
@@ -63,7 +63,7 @@ pub row_is : (c : Configuration) (w : World) (row : Row) → IsRowOf c w row →
 row_is c w row is = record { world = w; of = subst (λ k. IsRowOf k w row) (sym is.settings) is }
 
 -- whatever an event made, a row is left
-pub row_left : (c : Configuration) (w : World) (row : Row) (result : Result MarkList StepError) (o : Outcome) → IsMade result o w (λ v. IsRowOf c v row) → IsRow row
+pub row_left : (c : Configuration) (w : World) (row : Row) (result : Result MarkList ActError) (o : Outcome) → IsMade result o w (λ v. IsRowOf c v row) → IsRow row
 row_left c w row (Ok m) (Did v ms) is = row_is c v row is.1
 row_left c w row (Ok m) (NotReady reason) is = absurd is
 row_left c w row (Err (steps.NotReady reason)) (Did v ms) is = absurd is

@@ -7,8 +7,8 @@ use Rattle.ca_law_endings.proofs.EventFitLemmas.{followed-is-history}
 use Rattle.ca_law_endings.specs.Runs.{AreStamped}
 use Rattle.ca_base.specs.Configuration.{Configuration}
 use Rattle.ca_base.specs.declared.step.Reason.{Reason}
-use Rattle.ca_base.specs.declared.step.StepError.{StepError}
-use Rattle.ca_base.specs.declared.step.StepError.TheVariants as steps
+use Rattle.ca_base.specs.declared.step.ActError.{ActError}
+use Rattle.ca_base.specs.declared.step.ActError.TheVariants as steps
 use Rattle.ca_keys.specs.Memory.{ByteMap}
 use Rattle.ca_model.specs.Entries.{EntryValue}
 use Rattle.ca_model.specs.History.{IsHistory}
@@ -101,7 +101,7 @@ stops-before : (all : List (List Mark)) (place : ℕ) (reason : Reason) → mark
 stops-before [] place reason = refl
 stops-before (x ∷ xs) place reason = ap (with_marks x) (stops-before xs place reason)
 
-pub stops : (old row new : Row) (events : List Event) (all : List MarkList) (event : Event) (rest : List Event) (error : StepError)
+pub stops : (old row new : Row) (events : List Event) (all : List MarkList) (event : Event) (rest : List Event) (error : ActError)
     → IsReplaying old events row all (event ∷ rest) → new.count ≡ count_after (Err error) row.count
     → ((c : Configuration) (v : World) → IsRowOf c v row → IsMade (Err error) (step c v event) v (λ u. IsRowOf c u new))
     → (said : ReplayError) → said ≡ stop_at new.count error → (c : Configuration) (w : World) → IsRowOf c w old → IsReplay (Err said) (run_from c old.count w events)
@@ -219,11 +219,11 @@ pub makes_history : (c : Configuration) (bytes : ByteMap) (events : List Event) 
 makes_history c bytes events (Ok all) is = followed-is-history c bytes (history_of events all.items) (history_stamped events all.items) (history_follows c bytes events all is)
 makes_history c bytes events (Err error) is = record {}
 
--- and has each relation that every history has which follows the machine
-abbrev pub HasLaw : (ByteMap → List EntryValue → Type 0) → Type 0
-HasLaw Is = (c : Configuration) (bytes : ByteMap) (es : List EntryValue) → AreLimited c → AllByRecursion (λ e. CanBeMade e.event) es → Follows c bytes es → Is bytes es
+-- and is what every history is which follows the machine
+abbrev pub HasLaw : (Configuration → ByteMap → List EntryValue → Type 0) → Type 0
+HasLaw Is = (c : Configuration) (bytes : ByteMap) (es : List EntryValue) → AreLimited c → AllByRecursion (λ e. CanBeMade e.event) es → Follows c bytes es → Is c bytes es
 
-pub is_lawful : (Is : ByteMap → List EntryValue → Type 0) → HasLaw Is → (c : Configuration) (bytes : ByteMap) (events : List Event) (result : Result (Vec MarkList) ReplayError) → AreLimited c
-    → IsReplay result (run_over c bytes events) → OnOk result (AllByRecursion CanBeMade events) → IfOk result (λ all. Is bytes (history_of events all.items))
+pub is_lawful : (Is : Configuration → ByteMap → List EntryValue → Type 0) → HasLaw Is → (c : Configuration) (bytes : ByteMap) (events : List Event) (result : Result (Vec MarkList) ReplayError) → AreLimited c
+    → IsReplay result (run_over c bytes events) → OnOk result (AllByRecursion CanBeMade events) → IfOk result (λ all. Is c bytes (history_of events all.items))
 is_lawful Is law c bytes events (Ok all) limited is made = law c bytes (history_of events all.items) limited (history_made events all.items made) (history_follows c bytes events all is)
 is_lawful Is law c bytes events (Err error) limited is made = record {}

@@ -3,8 +3,8 @@ use Rattle.std.proofs.Common.{◌≡◌, ◌∙◌, refl, sym, ap, subst, Bool, 
 use Rattle.ca_adapter.specs.ca_adapter_acts.Steps.{IsStepOf, Shows}
 use Rattle.ca_adapter.proofs.WorldLemmas.{part-of-held}
 use Rattle.ca_base.specs.Configuration.{Configuration, configuration_in}
-use Rattle.ca_base.specs.declared.step.StepError.{StepError}
-use Rattle.ca_base.specs.declared.step.StepError.TheVariants as steps
+use Rattle.ca_base.specs.declared.step.ActError.{ActError}
+use Rattle.ca_base.specs.declared.step.ActError.TheVariants as steps
 use Rattle.ca_base.specs.objects.Mailbox.{Mailbox}
 use Rattle.ca_adapter_parts.specs.declared.held.Held.{Held}
 use Rattle.ca_adapter_parts.specs.declared.part.Part.{Part}
@@ -64,7 +64,7 @@ row_kept changed old new settings count parts held = λ c w v one other. same_ro
 -- ---- one event
 
 -- what is not in hand is left
-pub acted_rest : (c : Configuration) (event : Event) (w : World) (row : List Part) (h k : Held) (result : Result MarkList StepError) (held : List PartName) → AreTogether c w row (holding h)
+pub acted_rest : (c : Configuration) (event : Event) (w : World) (row : List Part) (h k : Held) (result : Result MarkList ActError) (held : List PartName) → AreTogether c w row (holding h)
     → ((w : World) → Shows w (holding h) → IsStepOf result (step c w event) w (holding h) (holding k)) → ((p : PartName) → (holding h).parts p ≡ is_held held p)
     → LeavesRest result (step c w event) w held
 acted_rest c event w row h k result held one each named = by result (step c w event) (each w (λ n has. one.shows n (part-of-held h n has)))
@@ -76,13 +76,13 @@ acted_rest c event w row h k result held one each named = by result (step c w ev
         at true has = absurd (true≢false (sym (part-of-held h n has) ∙ named (part_of n) ∙ free))
         at false has = refl
 
-    by : (r : Result MarkList StepError) (o : Outcome) → IsStepOf r o w (holding h) (holding k) → LeavesRest r o w held
+    by : (r : Result MarkList ActError) (o : Outcome) → IsStepOf r o w (holding h) (holding k) → LeavesRest r o w held
     by (Ok m) (Did v ms) made = λ n free. made.4 n (absent n free)
     by (Ok m) (NotReady reason) made = record {}
     by (Err error) o made = record {}
 
 -- the same of a row, with the room that the hand got before
-pub rest_left : (event : Event) (old : Row) (h : Holding) (result by : Result MarkList StepError) (held : List PartName) → h ≡ holding old.held → by ≡ result
+pub rest_left : (event : Event) (old : Row) (h : Holding) (result by : Result MarkList ActError) (held : List PartName) → h ≡ holding old.held → by ≡ result
     → ((w : World) → AreTogether (configuration_in old.settings) w old.parts.items h → LeavesRest by (step (configuration_in old.settings) w event) w held)
     → (c : Configuration) (w : World) → IsRowOf c w old → LeavesRest result (step c w event) w held
 rest_left event old h result by held same is all c w row =
@@ -91,7 +91,7 @@ rest_left event old h result by held same is all c w row =
     (subst (AreTogether c w old.parts.items) (sym same) row.together))
 
 -- the row that an event leaves
-pub rest_kept : (c : Configuration) (w v : World) (new : Row) (result : Result MarkList StepError) (o : Outcome) (taken : List Taken) → IsRowOf c v new
+pub rest_kept : (c : Configuration) (w v : World) (new : Row) (result : Result MarkList ActError) (o : Outcome) (taken : List Taken) → IsRowOf c v new
     → IsMade result o w (λ u. IsRowOf c u new) → LeavesRest result o w (names_of taken) → KeepsRest (names_changed result taken) w v
 rest_kept c w v new (Ok m) (Did u ms) taken stands made rest = record {
   queue = λ q free. (same_row (names_of taken) new c u v made.1 stands).queue q free ∙ rest (Queue_of q) free;

@@ -1,8 +1,8 @@
 -- A list of events made one after another: what the machine runs, and its history. Contracts cite it.
 use Rattle.std.specs.Prelude.{◌≡◌, ℕ, suc, List, [], ◌∷◌, map, Result, Ok, Err}
 use Rattle.std.specs.Global.{Vec}
-use Rattle.ca_base.specs.declared.step.StepError.{StepError}
-use Rattle.ca_base.specs.declared.step.StepError.TheVariants as steps
+use Rattle.ca_base.specs.declared.step.ActError.{ActError}
+use Rattle.ca_base.specs.declared.step.ActError.TheVariants as steps
 use Rattle.ca_model.specs.Entries.{EntryValue}
 use Rattle.ca_model.specs.Marks.{MarkList}
 use Rattle.ca_model.specs.declared.mark.Mark.{Mark}
@@ -32,6 +32,6 @@ abbrev pub history_of : List Event → List MarkList → List EntryValue
 history_of events all = entries_from 0 events all
 
 -- what is answered where an event is not made, before which so many were
-abbrev pub stop_at : ℕ → StepError → ReplayError
+abbrev pub stop_at : ℕ → ActError → ReplayError
 stop_at place (steps.NotReady reason) = errors.NotReady place reason
 stop_at place steps.Memory = errors.Memory

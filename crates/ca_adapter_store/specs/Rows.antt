@@ -2,8 +2,8 @@
 use Rattle.std.specs.Prelude.{◌≡◌, ℕ, suc, true, false, List, Option, None, Some, Result, Ok, Err, is_some, slice_get}
 use Rattle.std.specs.Option.{option_and_then}
 use Rattle.ca_base.specs.Configuration.{Configuration, configuration_in}
-use Rattle.ca_base.specs.declared.step.StepError.{StepError}
-use Rattle.ca_base.specs.declared.step.StepError.TheVariants as steps
+use Rattle.ca_base.specs.declared.step.ActError.{ActError}
+use Rattle.ca_base.specs.declared.step.ActError.TheVariants as steps
 use Rattle.ca_adapter_parts.specs.declared.part.Part.{Part}
 use Rattle.ca_adapter_parts.specs.HeldView.{Holding, holding}
 use Rattle.ca_adapter_parts.specs.Taking.{has_in, is_of_kind, world_with}
@@ -63,7 +63,7 @@ pub record IsRow (row : Row) : Type 0 where
 
 -- What an event made of a world, by the machine's outcome: its marks, and what is there stands for the world after it; or
 -- the reason why it is not possible, and it stands for the world as it was. Where memory ends it does so, too.
-abbrev pub IsMade : Result MarkList StepError → Outcome → World → (World → Type 0) → Type 0
+abbrev pub IsMade : Result MarkList ActError → Outcome → World → (World → Type 0) → Type 0
 IsMade (Ok m) (Did v ms) w Stands = (m.marks ≡ ms) × Stands v
 IsMade (Ok m) (NotReady reason) w Stands = ⊥
 IsMade (Err (steps.NotReady reason)) (Did v ms) w Stands = ⊥
@@ -71,6 +71,6 @@ IsMade (Err (steps.NotReady reason)) (NotReady why) w Stands = (reason ≡ why) 
 IsMade (Err steps.Memory) outcome w Stands = Stands w
 
 -- the row counts one event more where one was made
-abbrev pub count_after : Result MarkList StepError → ℕ → ℕ
+abbrev pub count_after : Result MarkList ActError → ℕ → ℕ
 count_after (Ok m) count = suc count
 count_after (Err error) count = count

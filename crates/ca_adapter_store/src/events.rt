@@ -1,6 +1,7 @@
 ghost use Rattle.std.specs.List.{AllByRecursion};
 ghost use Rattle.std.specs.Prelude.{◌≡◌, ◌-◌, ◌+◌, ◌<◌, ◌^◌, ◌++◌, [], ◌∷◌, IfOk, OnOk, length};
 ghost use Rattle.ca_base.specs.Configuration.{Configuration, configuration_of};
+ghost use Rattle.ca_isolation.specs.Alone.{Isolated};
 ghost use Rattle.ca_law_caused.specs.Relations.{HasRelations};
 ghost use Rattle.ca_model.specs.History.{IsHistory};
 ghost use Rattle.ca_model.specs.machine.Run.{run_from, run_over};
@@ -11,7 +12,7 @@ ghost use Rattle.ca_adapter_store.specs.Replays.{IsReplay, history_of, stop_at};
 ghost use Rattle.ca_adapter_store.specs.Rows.{IsRow, IsRowOf};
 
 use crate::row::Row;
-use ca_base::{Memory, Reason, StepError};
+use ca_base::{ActError, Memory, Reason};
 use ca_model::{Event, Marks, Opening};
 use std::alloc::Global;
 
@@ -47,6 +48,8 @@ pub fn replay(alloc: Global, opening: &Opening, events: &[Event]) -> Result<Vec<
     ensures history { IfOk result (λ all. IsHistory (history_of events.now all.items)) }
     ensures lawful { let c = configuration_of opening.now.config in
         IfOk result (λ all. HasRelations (opening_bytes c opening.now.contents) (history_of events.now all.items)) }
+    ensures isolated { let c = configuration_of opening.now.config in
+        IfOk result (λ all. Isolated c (opening_bytes c opening.now.contents) (history_of events.now all.items)) }
 {
     let mut row = Row::open(alloc, opening)?;
     make_all(alloc, &mut row, events)
@@ -71,12 +74,12 @@ fn make_all(alloc: Global, row: &mut Row, events: &[Event]) -> Result<Vec<Marks>
 }
 
 /// What is answered where an event is not made, before which so many were.
-fn stop_at(place: u32, error: StepError) -> ReplayError
+fn stop_at(place: u32, error: ActError) -> ReplayError
     ensures { result ≡ stop_at place error }
 {
     match error {
-        StepError::NotReady(reason) => ReplayError::NotReady(u64::from(place), reason),
-        StepError::Memory => ReplayError::Memory,
+        ActError::NotReady(reason) => ReplayError::NotReady(u64::from(place), reason),
+        ActError::Memory => ReplayError::Memory,
     }
 }
 

@@ -17,7 +17,7 @@ use crate::likely::{buffer_of, first_names, next_names};
 use ca_adapter::{act, next_part};
 use ca_adapter_parts::{ControlPart, Held, Part};
 use ca_base::limits::MAX_HELD_PARTS;
-use ca_base::{Settings, StepError};
+use ca_base::{ActError, Settings};
 use ca_model::{Event, Marks, PartName};
 use ca_model_places::place;
 use std::alloc::Global;
@@ -49,7 +49,7 @@ pub(crate) fn act_in_hand(
     parts: &mut Vec<Part>,
     held: &mut Held,
     taken: &mut Vec<Taken>,
-) -> Result<Marks, StepError>
+) -> Result<Marks, ActError>
     requires world { IsOfWorld (configuration_in settings.now) parts.old.items held.old }
     requires empty { IsEmpty (holding held.old) }
     requires none { taken.old.items ≡ [] }

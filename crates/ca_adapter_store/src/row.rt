@@ -11,7 +11,7 @@ use crate::hand::{MOST_TAKEN, Taken, act_in_hand};
 use ca_adapter::lists_fit;
 use ca_adapter_opening::parts;
 use ca_adapter_parts::{Held, Part};
-use ca_base::{Memory, Settings, StepError};
+use ca_base::{ActError, Memory, Settings};
 use ca_model::{Event, Marks, Opening};
 use std::alloc::Global;
 
@@ -49,7 +49,7 @@ impl Row {
     /// Makes an event: its parts are taken in hand, the event is acted, and they are given back to their places. NotReady
     /// and `Memory` leave all as it was. Fewer than 2^32 - 2 events were made before. The names and places of the parts
     /// that were in hand are left in `taken`: at all others each queue pair and each mailbox is as before.
-    pub fn make(&mut self, alloc: Global, event: &Event) -> Result<Marks, StepError>
+    pub fn make(&mut self, alloc: Global, event: &Event) -> Result<Marks, ActError>
         requires row { IsRow self.old }
         requires few { self.old.count < 2 ^ 32 - 2 }
         ensures step { (c : Configuration) (w : World) → IsRowOf c w self.old
@@ -63,7 +63,7 @@ impl Row {
         self.held.reserve(MOST_TAKEN)?;
         self.taken.clear();
         if self.taken.reserve(usize::from(MOST_TAKEN)).is_err() {
-            return Err(StepError::Memory);
+            return Err(ActError::Memory);
         }
         let marks = act_in_hand(
             alloc,

@@ -3,8 +3,8 @@ use Rattle.std.proofs.Common.{◌≡◌, ◌∙◌, refl, sym, ap, subst, ℕ, t
 use Rattle.std.specs.Box.{with_value}
 use Rattle.std.specs.declared.alloc.Global.{Global}
 use Rattle.ca_base.specs.declared.step.Sent.{Sent}
-use Rattle.ca_base.specs.declared.step.StepError.{StepError}
-use Rattle.ca_base.specs.declared.step.StepError.TheVariants as steps
+use Rattle.ca_base.specs.declared.step.ActError.{ActError}
+use Rattle.ca_base.specs.declared.step.ActError.TheVariants as steps
 use Rattle.ca_base.specs.objects.QueuePair.{Present, QueuePair, queue_in}
 use Rattle.ca_adapter_parts.specs.declared.held.Held.{Held}
 use Rattle.ca_adapter_parts.specs.declared.part.QueueSlot.{QueueSlot}
@@ -49,7 +49,7 @@ module _ (h : Held) (name : QueueId) (b : Box QueueSlot Global) (q now : QueuePa
   unturned same kept = put-there ∙ ap (λ r. hold (holding (with_reached h r)) (Queue_of name) (Present now)) kept
       ∙ ap (λ q. hold (holding h) (Queue_of name) (Present q)) same ∙ same-queue (holding h) name (Present q) here
 
-  turned-so : (result : Result Sent StepError) (ending : Ending) (before made : MarkList) (out bytes : List ℕ) → out ≡ []
+  turned-so : (result : Result Sent ActError) (ending : Ending) (before made : MarkList) (out bytes : List ℕ) → out ≡ []
       → IsTurn after_write_by result ending q now before made h.reached r out bytes → HasTurned name result ending h (holding stepped) before made bytes
   turned-so (Ok sent) (Does e) before made out bytes empty turn = (
     turn.0,
@@ -63,7 +63,7 @@ module _ (h : Held) (name : QueueId) (b : Box QueueSlot Global) (q now : QueuePa
   turned-so (Err (steps.NotReady reason)) ending before made out bytes empty turn = (turn.0, unturned turn.1.0.queue turn.1.1.0)
   turned-so (Err steps.Memory) ending before made out bytes empty turn = unturned turn.0.queue turn.1.0
 
-  pub has-turned : (result : Result Sent StepError) (row : QueuePair → Row) (before made : MarkList) (out bytes : List ℕ) → out ≡ []
+  pub has-turned : (result : Result Sent ActError) (row : QueuePair → Row) (before made : MarkList) (out bytes : List ℕ) → out ≡ []
       → IsTurn after_write_by result (ending_of (sight_of h.reached) (row q)) q now before made h.reached r out bytes
       → (x : QueuePair) → (holding h).world.queue name ≡ Present x
       → HasTurned name result (ending_of (sight_of h.reached) (row x)) h (holding stepped) before made bytes

@@ -12,8 +12,8 @@ use Rattle.ca_base.specs.declared.denied_ask.DeniedAsk.{DeniedAsk}
 use Rattle.ca_base.specs.declared.lot.Lot.{Lot}
 use Rattle.ca_base.specs.declared.refusals.OpRefusal.{OpRefusal}
 use Rattle.ca_base.specs.declared.step.Sent.{Sent}
-use Rattle.ca_base.specs.declared.step.StepError.{StepError}
-use Rattle.ca_base.specs.declared.step.StepError.TheVariants as steps
+use Rattle.ca_base.specs.declared.step.ActError.{ActError}
+use Rattle.ca_base.specs.declared.step.ActError.TheVariants as steps
 use Rattle.ca_base.specs.Sight.{Sight, bytes_in, first_denied}
 use Rattle.ca_base.specs.objects.QueuePair.{Present, QueuePair}
 use Rattle.ca_adapter_parts.specs.declared.held.Held.{Held}
@@ -113,7 +113,7 @@ module _ (c : Configuration) (h : Held) (name : QueueId) (lot : Lot) (q : QueueP
   performed e does = at-ending ∙ ap (perform_ending w (sight_of h.reached) finish []) does
       ∙ ap (λ xs. perform w (finish e [] (writes_in (sight_of h.reached) xs))) (quiet.ends (sight_of h.reached) e does).0
 
-  pub turn-unready : (new : Holding) (before made : MarkList) (bytes : List ℕ) (error : StepError)
+  pub turn-unready : (new : Holding) (before made : MarkList) (bytes : List ℕ) (error : ActError)
       → HasTurned name (Err error) (ending_of (sight_of h.reached) row) h new before made bytes → IsAct (Err error) (perform w plan) (holding h) new
   turn-unready new before made bytes (steps.NotReady reason) turn = subst (λ out. IsAct (Err (steps.NotReady reason)) out (holding h) new) (sym at-ending)
       (by (ending_of (sight_of h.reached) row) turn)

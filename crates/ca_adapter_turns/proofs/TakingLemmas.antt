@@ -12,7 +12,7 @@ use Rattle.ca_base.specs.declared.correspondent.Correspondent.{Correspondent}
 use Rattle.ca_base.specs.declared.lot.Lot.{Lot}
 use Rattle.ca_base.specs.declared.step.Reason.TheVariants as reasons
 use Rattle.ca_base.specs.declared.step.Sent.{Sent}
-use Rattle.ca_base.specs.declared.step.StepError.{StepError}
+use Rattle.ca_base.specs.declared.step.ActError.{ActError}
 use Rattle.ca_base.specs.objects.QueuePair.{Present, QueuePair, correspondent_of, queue_in, recv_cq_of, send_cq_of}
 use Rattle.ca_base.specs.objects.Slices.{has_queue}
 use Rattle.ca_base.specs.objects.StateTable.{is_among}
@@ -135,7 +135,7 @@ module _ {c : Configuration} {h : Held} {name : QueueId} {lot : Lot} {sender : S
         t.parts.sound t.parts.bound t.parts.outside t.parts.shows behind.1))
 
   -- where it is not done, it is not possible, or memory ended
-  pub takes-unready : (new : Holding) (before made : MarkList) (bytes : List ℕ) (error : StepError)
+  pub takes-unready : (new : Holding) (before made : MarkList) (bytes : List ℕ) (error : ActError)
       → ((x : QueuePair) → w.queue name ≡ Present x → HasTurned name (Err error) (ending_of (sight_of h.reached) (row_of sender room x)) h new before made bytes)
       → IsAct (Err error) (perform w plan) (holding h) new
   takes-unready new before made bytes error turned =

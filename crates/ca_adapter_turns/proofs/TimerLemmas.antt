@@ -15,8 +15,8 @@ use Rattle.ca_base.specs.declared.limits.TheConstants.{MAX_RETRY}
 use Rattle.ca_base.specs.declared.completion.WcStatus.TheVariants.{RetryExceeded}
 use Rattle.ca_base.specs.declared.step.Reason.{Reason}
 use Rattle.ca_base.specs.declared.step.Reason.TheVariants as reasons
-use Rattle.ca_base.specs.declared.step.StepError.{StepError}
-use Rattle.ca_base.specs.declared.step.StepError.TheVariants as steps
+use Rattle.ca_base.specs.declared.step.ActError.{ActError}
+use Rattle.ca_base.specs.declared.step.ActError.TheVariants as steps
 use Rattle.ca_base.specs.objects.QueuePair.{NoQueue, Present, QueuePair, QueueSlot, queue_in, recv_cq_of, send_cq_of, srq_of}
 use Rattle.ca_base.specs.objects.Slices.{has_queue}
 use Rattle.ca_adapter_parts.specs.HeldView.{Holding, hold}
@@ -92,7 +92,7 @@ takes-none silent q = by (nat_le q.requester.retry q.requester.retries)
     by false = refl
 
 -- where a step was not made, the reason is that of the plan
-unready : (h new : Holding) (name : QueueId) (q : QueuePair) (p : Plan) (refusal : Option Reason) (error : StepError) → ((r : Reason) → refusal ≡ Some r → perform h.world p ≡ NotReady r)
+unready : (h new : Holding) (name : QueueId) (q : QueuePair) (p : Plan) (refusal : Option Reason) (error : ActError) → ((r : Reason) → refusal ≡ Some r → perform h.world p ≡ NotReady r)
     → HasStepped {A = Unit {0}} name (Err error) refusal q h new → IsAct (Err error) (perform h.world p) h new
 unready h new name q p refusal (steps.NotReady reason) is step = subst (λ out. IsAct (Err (steps.NotReady reason)) out h new) (sym (is reason step.0)) (refl, step.1)
 unready h new name q p refusal steps.Memory is step = by (perform h.world p) step
@@ -173,7 +173,7 @@ module _ (c : Configuration) (h : Holding) (name : QueueId) (hasten : Bool) wher
     timeout_refused r first = at-fire q p has there named peer ∙ ap (λ s. perform h.world (Fire hasten q (around_at h.world q) s)) (sym is)
         ∙ refused-performs h.world (timeout_refusals silent hasten q) (Finish (updates_of q (around_at h.world q) (after_timeout silent q)) [] (after_timeout silent q).marks) r first
 
-    pub timeout_unready : (new : Holding) (error : StepError)
+    pub timeout_unready : (new : Holding) (error : ActError)
         → HasStepped {A = Unit {0}} name (Err error) (first_of (timeout_refusals silent hasten q)) (after_timeout silent q).queue h new
         → IsAct (Err error) (perform h.world (timeout_plan c name hasten)) h new
     timeout_unready new error step = unready h new name (after_timeout silent q).queue (timeout_plan c name hasten) (first_of (timeout_refusals silent hasten q)) error timeout_refused step
@@ -289,7 +289,7 @@ module _ (c : Configuration) (h : Holding) (name : QueueId) where
     pub wake_refused : (r : Reason) → first_of (wake_refusals empty q) ≡ Some r → perform h.world (wake_plan c name) ≡ NotReady r
     wake_refused r first = at-wake ∙ refused-performs h.world (wake_refusals empty q) (woken q) r first
 
-    pub wake_unready : (new : Holding) (error : StepError) → HasStepped {A = Unit {0}} name (Err error) (first_of (wake_refusals empty q)) (after_wake q).queue h new
+    pub wake_unready : (new : Holding) (error : ActError) → HasStepped {A = Unit {0}} name (Err error) (first_of (wake_refusals empty q)) (after_wake q).queue h new
         → IsAct (Err error) (perform h.world (wake_plan c name)) h new
     wake_unready new error step = unready h new name (after_wake q).queue (wake_plan c name) (first_of (wake_refusals empty q)) error wake_refused step
 

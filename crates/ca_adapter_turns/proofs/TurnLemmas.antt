@@ -14,8 +14,8 @@ use Rattle.ca_base.specs.declared.lot.Lot.{Lot}
 use Rattle.ca_base.specs.declared.step.Sent.{Sent}
 use Rattle.ca_base.specs.declared.step.Sent.TheVariants.{Silent, Spelt}
 use Rattle.ca_base.specs.declared.step.Reason.{Reason}
-use Rattle.ca_base.specs.declared.step.StepError.{StepError}
-use Rattle.ca_base.specs.declared.step.StepError.TheVariants as steps
+use Rattle.ca_base.specs.declared.step.ActError.{ActError}
+use Rattle.ca_base.specs.declared.step.ActError.TheVariants as steps
 use Rattle.ca_base.specs.objects.CompletionQueue.{CompletionQueue, after_puts}
 use Rattle.ca_base.specs.objects.Mailbox.{Mailbox, after_send}
 use Rattle.ca_base.specs.objects.QueuePair.{NoQueue, Present, QueuePair, QueueSlot, queue_in, recv_cq_of, send_cq_of, srq_of}
@@ -174,11 +174,11 @@ module _ (h new : Holding) (name : QueueId) (q now : QueuePair) (there : Present
   told : (P : QueuePair → Type 0) → P q → (x : QueuePair) → h.world.queue name ≡ Present x → P x
   told P is x here = subst (λ s. IfSome (queue_in s) P) (there ∙ here) is
 
-  pub has-stepped : {A : Type 0} (result : Result A StepError) (refusal : QueuePair → Option Reason) (e : QueuePair → Effects) (before made : MarkList)
+  pub has-stepped : {A : Type 0} (result : Result A ActError) (refusal : QueuePair → Option Reason) (e : QueuePair → Effects) (before made : MarkList)
       → IsStep result (refusal q) (e q) q now before made → (x : QueuePair) → h.world.queue name ≡ Present x → HasStepped name result (refusal x) (e x).queue h new
   has-stepped result refusal e before made step = told (λ x. HasStepped name result (refusal x) (e x).queue h new) (by result step)
     where
-      by : {A : Type 0} (result : Result A StepError) → IsStep result (refusal q) (e q) q now before made → HasStepped name result (refusal q) (e q).queue h new
+      by : {A : Type 0} (result : Result A ActError) → IsStep result (refusal q) (e q) q now before made → HasStepped name result (refusal q) (e q).queue h new
       by (Ok done) step = (step.0, moved (e q) step.1.queue)
       by (Err (steps.NotReady reason)) step = (step.0, unmoved step.1.queue)
       by (Err steps.Memory) step = unmoved step.1.queue

@@ -6,8 +6,8 @@ use Rattle.ca_base.specs.declared.lot.Lot.{Lot}
 use Rattle.ca_base.specs.declared.step.Reason.{Reason}
 use Rattle.ca_base.specs.declared.step.Sent.{Sent}
 use Rattle.ca_base.specs.declared.step.Sent.TheVariants.{Silent, Spelt}
-use Rattle.ca_base.specs.declared.step.StepError.{StepError}
-use Rattle.ca_base.specs.declared.step.StepError.TheVariants as steps
+use Rattle.ca_base.specs.declared.step.ActError.{ActError}
+use Rattle.ca_base.specs.declared.step.ActError.TheVariants as steps
 use Rattle.ca_base.specs.objects.Mailbox.{Mailbox, after_send, has_room, passes}
 use Rattle.ca_base.specs.objects.QueuePair.{QueuePair, Present, queue_in}
 use Rattle.ca_adapter_parts.specs.declared.held.Held.{Held}
@@ -26,7 +26,7 @@ use Rattle.ca_adapter_reach_laws.specs.Ties.{with_reached}
 use Rattle.ca_requester.specs.ca_qp_rows.Made.{IsUnable, written_all}
 
 -- the queue pair of a name has stepped to this one, where no reason stands against it; or nothing has changed
-abbrev pub HasStepped : {A : Type 0} → QueueId → Result A StepError → Option Reason → QueuePair → Holding → Holding → Type 0
+abbrev pub HasStepped : {A : Type 0} → QueueId → Result A ActError → Option Reason → QueuePair → Holding → Holding → Type 0
 HasStepped name (Ok done) refusal q old new = (refusal ≡ None) × (new ≡ hold old (Queue_of name) (Present q))
 HasStepped name (Err (steps.NotReady reason)) refusal q old new = (refusal ≡ Some reason) × (new ≡ old)
 HasStepped name (Err steps.Memory) refusal q old new = new ≡ old
@@ -37,7 +37,7 @@ has_no_receive w name = option_map_or (λ q. is_none (next_receive q (shared_rec
 
 -- a turn of the queue pair of a name was done as its row ends, with what it reached; or it was not possible, or memory
 -- ended, and nothing has changed
-abbrev pub HasTurned : QueueId → Result Sent StepError → Ending → Held → Holding → MarkList → MarkList → List ℕ → Type 0
+abbrev pub HasTurned : QueueId → Result Sent ActError → Ending → Held → Holding → MarkList → MarkList → List ℕ → Type 0
 HasTurned name (Ok sent) (Does e) old new before after bytes =
     (sent ≡ e.sent)
     × (new ≡ hold (holding (with_reached old (written_all after_write_by old.reached e.writes))) (Queue_of name) (Present e.queue))

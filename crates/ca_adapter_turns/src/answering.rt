@@ -12,7 +12,7 @@ ghost use Rattle.ca_model.specs.machine.Turns.{respond_plan};
 
 use crate::sending::{Sender, take_turn};
 use ca_adapter_parts::Held;
-use ca_base::{Lot, QueueId, Settings, StepError};
+use ca_base::{ActError, Lot, QueueId, Settings};
 use ca_model::Marks;
 use std::alloc::Global;
 
@@ -25,7 +25,7 @@ pub fn respond(
     held: &mut Held,
     queue: QueueId,
     lot: Lot,
-) -> Result<Marks, StepError>
+) -> Result<Marks, ActError>
     requires suffices { Suffices held.old (respond_plan (configuration_in settings.now) queue lot) }
     requires parts { AreShown (configuration_in settings.now) held.old }
     requires step { IfSome (queue_in ((holding held.old).world.queue queue)) CanStep }

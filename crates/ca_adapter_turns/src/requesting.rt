@@ -12,7 +12,7 @@ ghost use Rattle.ca_requester.specs.ca_requester_sends.Turn.{SendsFound};
 
 use crate::sending::{Sender, take_turn};
 use ca_adapter_parts::Held;
-use ca_base::{Lot, QueueId, Settings, StepError};
+use ca_base::{ActError, Lot, QueueId, Settings};
 use ca_model::Marks;
 use ca_requester::Found;
 use std::alloc::Global;
@@ -28,7 +28,7 @@ pub fn send_packet(
     queue: QueueId,
     lot: Lot,
     found: &Found,
-) -> Result<Marks, StepError>
+) -> Result<Marks, ActError>
     requires suffices { Suffices held.old (request_plan (configuration_in settings.now) queue lot) }
     requires parts { AreShown (configuration_in settings.now) held.old }
     requires sends { IfSome (queue_in ((holding held.old).world.queue queue)) (λ q. SendsFound q found.now) }

@@ -31,7 +31,7 @@ use ca_adapter_parts::ca_qpstate::QueuePart;
 use ca_adapter_parts::{Held, QueueSlot};
 use ca_adapter_reach::Reached;
 use ca_adapter_reach_laws::ca_responder_answers::{next_response, respond_ask};
-use ca_base::{Ask, Correspondent, Lot, QueueId, Reason, Sent, Settings, State, StepError};
+use ca_base::{ActError, Ask, Correspondent, Lot, QueueId, Reason, Sent, Settings, State};
 use ca_model::Marks;
 use ca_requester::{Found, next_asks, next_packet};
 use std::alloc::Global;
@@ -85,7 +85,7 @@ impl Sender {
         room: bool,
         marks: &mut Marks,
         out: &mut Vec<u8>,
-    ) -> Result<Sent, StepError>
+    ) -> Result<Sent, ActError>
         requires can { CanSend self q.old }
         requires at_hand { AreAtHand sight_of CanJudge HasBytesAtHand reach.old (row_of self room q.old).asks }
         ensures turn { IsTurn after_write_by result (ending_of (sight_of reach.old) (row_of self room q.old))
@@ -110,7 +110,7 @@ pub(crate) fn take_turn(
     queue: QueueId,
     lot: Lot,
     sender: Sender,
-) -> Result<Marks, StepError>
+) -> Result<Marks, ActError>
     requires suffices { Suffices held.old (turn_plan sender (configuration_in settings.now) queue lot) }
     requires parts { AreShown (configuration_in settings.now) held.old }
     requires can { IfSome (queue_in ((holding held.old).world.queue queue)) (CanSend sender) }
@@ -121,13 +121,13 @@ pub(crate) fn take_turn(
     ensures act { Acts result (turn_plan sender (configuration_in settings.now) queue lot) held.old held.new }
 {
     if !settings.has_queue(queue) {
-        return Err(StepError::NotReady(Reason::State));
+        return Err(ActError::NotReady(Reason::State));
     }
     let QueueSlot::Present(q) = held.queue(queue) else {
-        return Err(StepError::NotReady(Reason::State));
+        return Err(ActError::NotReady(Reason::State));
     };
     let Some(peer) = peer_of(q) else {
-        return Err(StepError::NotReady(sender.reason_alone(q)));
+        return Err(ActError::NotReady(sender.reason_alone(q)));
     };
     let path = Path {
         from: own_of(q),
@@ -138,7 +138,7 @@ pub(crate) fn take_turn(
     let mut marks = Marks::empty(alloc);
     let mut bytes = Vec::new(alloc);
     let Ok(copy) = Vec::with_capacity(alloc, sender.most(q)) else {
-        return Err(StepError::Memory);
+        return Err(ActError::Memory);
     };
     let sent = turn_held(held, queue, sender, room, &mut marks, &mut bytes)?;
     put_done(held, &to, marks.as_slice());
@@ -155,7 +155,7 @@ fn turn_held(
     room: bool,
     marks: &mut Marks,
     out: &mut Vec<u8>,
-) -> Result<Sent, StepError>
+) -> Result<Sent, ActError>
     requires held { (holding held.old).has (Queue_of queue) ≡ true }
     requires there { is_present ((holding held.old).world.queue queue) ≡ true }
     requires can { IfSome (queue_in ((holding held.old).world.queue queue)) (CanSend sender) }

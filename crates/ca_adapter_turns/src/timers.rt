@@ -20,7 +20,7 @@ use ca_adapter_acts::{Outlets, put_done};
 use ca_adapter_parts::ca_qpstate::QueuePart;
 use ca_adapter_parts::{Held, QueueSlot};
 use ca_adapter_reach_laws::ca_responder_operations::next_receive;
-use ca_base::{Correspondent, QueueId, Reason, Settings, Slot, StepError};
+use ca_base::{ActError, Correspondent, QueueId, Reason, Settings, Slot};
 use ca_model::Marks;
 use ca_requester::{on_rnr_wake, on_timeout};
 use ca_srq::Srq;
@@ -36,7 +36,7 @@ pub fn timeout(
     held: &mut Held,
     queue: QueueId,
     hasten: bool,
-) -> Result<Marks, StepError>
+) -> Result<Marks, ActError>
     requires suffices { Suffices held.old (turns.timeout_plan (configuration_in settings.now) queue hasten) }
     requires step { IfSome (queue_in ((holding held.old).world.queue queue)) CanStep }
     requires named { IfSome (queue_in ((holding held.old).world.queue queue)) (λ q. q.queue ≡ queue) }
@@ -45,13 +45,13 @@ pub fn timeout(
     ensures act { Acts result (turns.timeout_plan (configuration_in settings.now) queue hasten) held.old held.new }
 {
     if !settings.has_queue(queue) {
-        return Err(StepError::NotReady(Reason::State));
+        return Err(ActError::NotReady(Reason::State));
     }
     let QueueSlot::Present(q) = held.queue(queue) else {
-        return Err(StepError::NotReady(Reason::State));
+        return Err(ActError::NotReady(Reason::State));
     };
     let Some(peer) = peer_of(q) else {
-        return Err(StepError::NotReady(Reason::State));
+        return Err(ActError::NotReady(Reason::State));
     };
     let silent = is_silent(held, q, peer);
     let to = Outlets::of(q);
@@ -69,7 +69,7 @@ fn fire(
     silent: bool,
     hasten: bool,
     marks: &mut Marks,
-) -> Result<(), StepError>
+) -> Result<(), ActError>
     requires held { (holding held.old).has (Queue_of queue) ≡ true }
     requires there { is_present ((holding held.old).world.queue queue) ≡ true }
     requires step { IfSome (queue_in ((holding held.old).world.queue queue)) CanStep }
@@ -141,20 +141,20 @@ pub fn rnr_wake(
     settings: &Settings,
     held: &mut Held,
     queue: QueueId,
-) -> Result<Marks, StepError>
+) -> Result<Marks, ActError>
     requires suffices { Suffices held.old (turns.wake_plan (configuration_in settings.now) queue) }
     requires step { (q : QueueId) → IfSome (queue_in ((holding held.old).world.queue q)) CanStep }
     requires named { IfSome (queue_in ((holding held.old).world.queue queue)) (λ q. q.queue ≡ queue) }
     ensures act { Acts result (turns.wake_plan (configuration_in settings.now) queue) held.old held.new }
 {
     if !settings.has_queue(queue) {
-        return Err(StepError::NotReady(Reason::State));
+        return Err(ActError::NotReady(Reason::State));
     }
     let QueueSlot::Present(q) = held.queue(queue) else {
-        return Err(StepError::NotReady(Reason::State));
+        return Err(ActError::NotReady(Reason::State));
     };
     let Some(peer) = peer_of(q) else {
-        return Err(StepError::NotReady(Reason::State));
+        return Err(ActError::NotReady(Reason::State));
     };
     let peer_empty = is_peer_empty(held, q, peer);
     wake(held, queue, peer_empty)?;
@@ -163,7 +163,7 @@ pub fn rnr_wake(
 
 /// The waiting of a queue pair that is held ends, or does not.
 #[tactic(auto, using(ca_adapter_parts::proofs::HoldLemmas::put_queue))]
-fn wake(held: &mut Held, queue: QueueId, peer_empty: bool) -> Result<(), StepError>
+fn wake(held: &mut Held, queue: QueueId, peer_empty: bool) -> Result<(), ActError>
     requires held { (holding held.old).has (Queue_of queue) ≡ true }
     requires there { is_present ((holding held.old).world.queue queue) ≡ true }
     ensures { (q : QueuePair) → (holding held.old).world.queue queue ≡ Present q
@@ -175,7 +175,7 @@ fn wake(held: &mut Held, queue: QueueId, peer_empty: bool) -> Result<(), StepErr
     };
     match on_rnr_wake(q, peer_empty) {
         Ok(()) => Ok(()),
-        Err(reason) => Err(StepError::NotReady(reason)),
+        Err(reason) => Err(ActError::NotReady(reason)),
     }
 }
 

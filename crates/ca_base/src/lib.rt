@@ -48,4 +48,4 @@ pub use reserve::{Reservation, Reserve};
 pub use saved_result::SavedResult;
 pub use settings::{AdapterSettings, Settings};
 pub use slots::{slot_of_key, slot_of_queue};
-pub use step::{Reason, Sent, StepError, Turn};
+pub use step::{ActError, Reason, Sent, Turn};

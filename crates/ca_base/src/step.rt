@@ -1,5 +1,5 @@
 ghost use Rattle.std.specs.Prelude.{◌≡◌};
-ghost use Rattle.ca_base.specs.declared.step.StepError.TheVariants as steps;
+ghost use Rattle.ca_base.specs.declared.step.ActError.TheVariants as steps;
 
 use ca_keys::{Memory, QueueId};
 
@@ -24,20 +24,20 @@ pub enum Reason {
     NotDue,
 }
 
-/// Why a turn of an engine did nothing.
+/// Why an event was not acted.
 #[derive(Clone, Copy)]
-pub enum StepError {
+pub enum ActError {
     /// It is not possible now.
     NotReady(Reason),
     /// Out of memory.
     Memory,
 }
 
-impl From<Memory> for StepError {
+impl From<Memory> for ActError {
     ghost from_gives = { λ _ error. error ≡ steps.Memory };
 
-    fn from(_memory: Memory) -> StepError {
-        StepError::Memory
+    fn from(_memory: Memory) -> ActError {
+        ActError::Memory
     }
 }
 
@@ -48,14 +48,20 @@ pub enum Sent {
     Spelt { request: Option<u64> },
 }
 
-/// One turn of an adapter's engine at a queue pair. `Due` delivers the envelope that is due, `Deliver` the one with
-/// this index.
-#[derive(Clone, Copy)]
+/// A turn of a queue pair's engine. What the weather does to it is found as it is made, so that nobody who asks for a turn
+/// chooses the lot of its packet.
+#[derive(Clone, Copy, PartialEq, Eq)]
 pub enum Turn {
+    /// The requester sends a packet, or performs a local operation.
     Request(QueueId),
+    /// The envelope that is due in the mailbox is delivered.
     Due(QueueId),
+    /// The envelope of this index is delivered.
     Deliver(QueueId, u64),
+    /// The responder sends the answer at the front of its response queue.
     Respond(QueueId),
+    /// The requester's timer fires.
     Timeout(QueueId),
+    /// The wait after an RNR NAK ends.
     RnrWake(QueueId),
 }

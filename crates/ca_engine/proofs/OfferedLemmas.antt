@@ -3,7 +3,7 @@ use Rattle.std.proofs.Common.{◌≡◌, ℕ, List, [], ◌∷◌, ◌++◌, map
 use Rattle.std.specs.List.{flat_map}
 use Rattle.std.proofs.lemmas.List.{map-append}
 use Rattle.ca_keys.specs.declared.names.QueueId.{QueueId}
-use Rattle.ca_script_order.specs.ca_model_places.declared.turn.Turn.TheVariants as turns
+use Rattle.ca_base.specs.declared.step.Turn.TheVariants as turns
 use Rattle.ca_script_order.specs.Visits.{Visit, Consumer, Engine, all_queues, numbers_below, round_of, timer_pass_of}
 use Rattle.ca_script_order.specs.ca_script.Script.{ScriptValue}
 use Rattle.ca_engine.specs.Offers.{offers_of_round, offers_of_timers, timers_of_queue, turns_of_queue}

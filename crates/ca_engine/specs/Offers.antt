@@ -4,7 +4,7 @@ use Rattle.std.specs.List.{flat_map}
 use Rattle.ca_base.specs.Configuration.{Configuration}
 use Rattle.ca_keys.specs.declared.names.QueueId.{QueueId}
 use Rattle.ca_script_order.specs.Visits.{all_queues, numbers_below}
-use Rattle.ca_script_order.specs.ca_model_places.declared.turn.Turn.TheVariants as turns
+use Rattle.ca_base.specs.declared.step.Turn.TheVariants as turns
 use Rattle.ca_engine.specs.declared.offer.Offer.{Offer}
 use Rattle.ca_engine.specs.declared.offer.Offer.TheVariants as offers
 

@@ -1,7 +1,7 @@
 ghost use Rattle.std.specs.Prelude.{◌≡◌};
 ghost use Rattle.ca_engine.specs.Engine.{is_consumer};
 
-use ca_script_order::ca_model_places::Turn;
+use ca_base::Turn;
 
 /// What an engine offers to be tried.
 #[derive(Clone, Copy, PartialEq, Eq)]

@@ -7,8 +7,7 @@ ghost use Rattle.ca_engine.specs.Offers.{timers_of_queue, turns_of_queue};
 ghost use Rattle.ca_engine.specs.declared.offer.Offer.TheVariants as variants;
 
 use crate::offer::Offer;
-use ca_base::{AdapterConfig, Config, DomainId, Memory, QueueId, Slot};
-use ca_script_order::ca_model_places::Turn;
+use ca_base::{AdapterConfig, Config, DomainId, Memory, QueueId, Slot, Turn};
 use std::alloc::Global;
 
 /// Adds the queue pairs of a domain with so many slots.

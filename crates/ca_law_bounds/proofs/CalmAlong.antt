@@ -1,5 +1,6 @@
 -- Along a history in calm weather the cursor of each end of a clean connection goes on. For proofs only.
-use Rattle.std.proofs.Common.{◌≡◌, ◌≤◌, ◌&&◌, ◌==◌, Bool, true, false, List, [], ◌∷◌, ◌⊎◌, inl, inr, refl, ap₂, sym, subst, arith, true≢false}
+use Rattle.std.proofs.Common.{◌≡◌, ◌≤◌, ◌&&◌, ◌==◌, not, ℕ, Bool, true, false, List, [], ◌∷◌, ◌⊎◌, inl, inr, refl, ap, ap₂, sym, subst, arith, true≢false}
+use Rattle.std.proofs.lemmas.Bool.Decides.{nat_tests}
 use Rattle.std.specs.List.{AllByRecursion, Contains}
 use Rattle.std.specs.Prelude.{IsTrue}
 use Rattle.ca_law_endings.specs.Runs.{Comes}
@@ -12,7 +13,9 @@ use Rattle.ca_connection.specs.Link.{Link, opening}
 use Rattle.ca_connection.specs.Moves.{Reached}
 use Rattle.ca_connection.specs.Moves.Reached.{begin, move}
 use Rattle.ca_connection.specs.Calm.{CalmLink, calm_opening}
+use Rattle.ca_keys.specs.Equal.{queue_eq}
 use Rattle.ca_keys.specs.Memory.{ByteMap}
+use Rattle.ca_keys.specs.declared.names.QueueId.{QueueId}
 use Rattle.ca_model.specs.Entries.{EntryValue}
 use Rattle.ca_model.specs.Once.{begins_as_expected, is_clean_pair, is_not_injected}
 use Rattle.ca_model.specs.Past.{Naming, Past, after_entries, after_entry, after_marks, at_begin, correspondent_eq, opening_past}
@@ -123,20 +126,31 @@ cursors-go-on c bytes es a b limited made follows calm a_in b_in clean = calm-al
 
 -- ---- from the other end
 
-seven-parts : (t1 t2 t3 t4 t5 t6 t7 : Bool) → (t1 && t2 && t3 && t4 && t5 && t6 && t7) ≡ true → (t2 && t1 && t3 && t5 && t4 && t7 && t6) ≡ true
-seven-parts true true true true true true true is = refl
-seven-parts false t2 t3 t4 t5 t6 t7 is = absurd (true≢false (sym is))
-seven-parts true false t3 t4 t5 t6 t7 is = absurd (true≢false (sym is))
-seven-parts true true false t4 t5 t6 t7 is = absurd (true≢false (sym is))
-seven-parts true true true false t5 t6 t7 is = absurd (true≢false (sym is))
-seven-parts true true true true false t6 t7 is = absurd (true≢false (sym is))
-seven-parts true true true true true false t7 is = absurd (true≢false (sym is))
-seven-parts true true true true true true false is = absurd (true≢false (sym is))
+eight-parts : (t0 t1 t2 t3 t4 t5 t6 t7 : Bool) → (t0 && t1 && t2 && t3 && t4 && t5 && t6 && t7) ≡ true → (t0 && t2 && t1 && t3 && t5 && t4 && t7 && t6) ≡ true
+eight-parts true true true true true true true true is = refl
+eight-parts false t1 t2 t3 t4 t5 t6 t7 is = absurd (true≢false (sym is))
+eight-parts true false t2 t3 t4 t5 t6 t7 is = absurd (true≢false (sym is))
+eight-parts true true false t3 t4 t5 t6 t7 is = absurd (true≢false (sym is))
+eight-parts true true true false t4 t5 t6 t7 is = absurd (true≢false (sym is))
+eight-parts true true true true false t5 t6 t7 is = absurd (true≢false (sym is))
+eight-parts true true true true true false t6 t7 is = absurd (true≢false (sym is))
+eight-parts true true true true true true false t7 is = absurd (true≢false (sym is))
+eight-parts true true true true true true true false is = absurd (true≢false (sym is))
+
+number-turned : (m n : ℕ) → (m == n) ≡ (n == m)
+number-turned m n = grind (arith, nat_tests)
+
+queue-turned : (x y : QueueId) → queue_eq x y ≡ queue_eq y x
+queue-turned x y = ap₂ (λ p q. p && q) (number-turned x.adapter y.adapter) (number-turned x.number y.number)
 
 -- a clean connection is clean from either end
 pub clean-back : (past : Past) (a b : Naming) → a.mtu ≡ b.mtu → is_clean_pair past a b ≡ true → is_clean_pair past b a ≡ true
-clean-back past a b same clean = subst (λ t. (t2 && t1 && t && t5 && t4 && t7 && t6) ≡ true) (ap₂ (λ x y. x == y) same (sym same)) (seven-parts t1 t2 (a.mtu == b.mtu) t4 t5 t6 t7 clean)
+clean-back past a b same clean = subst (λ t. (t && t2 && t1 && (b.mtu == a.mtu) && t5 && t4 && t7 && t6) ≡ true) (ap not (queue-turned a.own.queue b.own.queue))
+    (subst (λ t. (t0 && t2 && t1 && t && t5 && t4 && t7 && t6) ≡ true) (ap₂ (λ x y. x == y) same (sym same)) (eight-parts t0 t1 t2 (a.mtu == b.mtu) t4 t5 t6 t7 clean))
   where
+    t0 : Bool
+    t0 = not (queue_eq a.own.queue b.own.queue)
+
     t1 : Bool
     t1 = correspondent_eq a.peer b.own
 

@@ -1,5 +1,5 @@
 -- What a row of the machine makes of a link: a move leads to another one. Contracts cite it.
-use Rattle.std.specs.Prelude.{◌≡◌, ℕ, zero, suc, ◌==◌, true, if◌then◌else◌, List, [], ◌∷◌, ◌++◌, Option}
+use Rattle.std.specs.Prelude.{◌≡◌, ℕ, ◌==◌, true, if◌then◌else◌, List, [], ◌∷◌, ◌++◌, Option, replicate}
 use Rattle.ca_connection.specs.Layout.{Direction, is_atomic, is_write}
 use Rattle.ca_connection.specs.Link.{Acceptance, AtomicCompletion, Link, RequestPacket, Requester, Responder, Response}
 use Rattle.ca_connection.specs.Moves.{Reached, with_one}
@@ -11,11 +11,6 @@ use Rattle.ca_law_once.specs.Moves.{numbers_found, writes_told}
 abbrev pub found_at : ℕ → List Acceptance → List ℕ
 found_at place [] = []
 found_at place (a ∷ rest) = if a.place == place then a.found ∷ found_at place rest else found_at place rest
-
--- a number so many times
-abbrev pub times : ℕ → ℕ → List ℕ
-times zero n = []
-times (suc k) n = n ∷ times k n
 
 -- Moves lead from a link to one with this requester, this responder and these mailboxes, and nothing else of it changes.
 pub record LeadsTo (d : Direction) (l : Link) (requester : Requester) (responder : Responder) (requests : List (Option RequestPacket)) (responses : List (Option Response)) : Type 0 where
@@ -41,7 +36,7 @@ pub record IsReceived (d : Direction) (l : Link) (x : RequestPacket) (responder 
   pub found : (place : ℕ) → is_atomic (d.work place) ≡ true
       → found_at place link.acceptances ≡ (if x.place == place then numbers_found e.marks else []) ++ found_at place l.acceptances
   pub wrote : (place : ℕ) → is_write (d.work place) ≡ true
-      → numbers_at place link.acceptances ≡ (if x.place == place then times (writes_told e.marks) x.number else []) ++ numbers_at place l.acceptances
+      → numbers_at place link.acceptances ≡ (if x.place == place then replicate (writes_told e.marks) x.number else []) ++ numbers_at place l.acceptances
 
 -- A response was taken: the requester is this one, and an atomic may have completed.
 pub record IsTaken (d : Direction) (l : Link) (requester : Requester) (completion : Option AtomicCompletion) : Type 0 where

@@ -46,14 +46,14 @@ found_in work (Rejected code) = []
 found_in work (Accepted found) = if is_atomic work then found ∷ [] else []
 
 -- the mark tells of a remote write
-abbrev pub is_written : Mark → Bool
-is_written (marks.Remote queue domain envelope key kind address length (verdicts.Wrote bytes)) = true
-is_written m = false
+abbrev pub is_remote_write : Mark → Bool
+is_remote_write (marks.Remote queue domain envelope key kind address length (verdicts.Wrote bytes)) = true
+is_remote_write m = false
 
 -- how many remote writes there were, by their marks
 abbrev pub writes_told : List Mark → ℕ
 writes_told [] = 0
-writes_told (m ∷ ms) = if is_written m then suc (writes_told ms) else writes_told ms
+writes_told (m ∷ ms) = if is_remote_write m then suc (writes_told ms) else writes_told ms
 
 -- how often an accepted packet of a request wrote: once where that is a WRITE
 abbrev pub written_in : Work → Reception → ℕ

@@ -1,6 +1,6 @@
 -- When a world and a link say the same of one direction of a connection: of the life that sends and the life that receives.
 -- Laws cite it.
-use Rattle.std.specs.Prelude.{◌≡◌, ℕ, suc, ◌<◌, ◌==◌, ◌++◌, true, false, if◌then◌else◌, List, [], ◌∷◌, Option, None, Some, slice_get}
+use Rattle.std.specs.Prelude.{◌≡◌, ℕ, suc, ◌<◌, ◌==◌, ◌++◌, true, false, if◌then◌else◌, List, [], ◌∷◌, Option, None, Some, slice_get, replicate}
 use Rattle.ca_law_endings.specs.Agreement.{peer_in}
 use Rattle.ca_base.specs.declared.change.State.TheVariants as states
 use Rattle.ca_base.specs.declared.correspondent.Correspondent.{Correspondent}
@@ -20,7 +20,7 @@ use Rattle.ca_model.specs.declared.verb.Verb.TheVariants as verbs
 use Rattle.ca_model.specs.machine.Invariants.{is_sending}
 use Rattle.ca_model.specs.machine.World.{World}
 use Rattle.ca_law_once.specs.Entries.{SpellsRequest, SpellsResponse, SpellsSomeRequest, SpellsSomeResponse}
-use Rattle.ca_law_once.specs.Links.{found_at, times}
+use Rattle.ca_law_once.specs.Links.{found_at}
 use Rattle.ca_law_once.specs.Moves.{numbers_found, writes_told}
 use Rattle.ca_law_once.specs.Sides.{IsLaid, requester_in, responder_in}
 
@@ -134,7 +134,7 @@ found_by_delivery r w l name index ms place =
 
 -- the numbers of the packets of a WRITE that wrote, where this entry was delivered and so many remote writes are told
 abbrev pub written_by_entry : Option (Option RequestPacket) → ℕ → ℕ → List ℕ
-written_by_entry (Some (Some x)) count place = if x.place == place then times count x.number else []
+written_by_entry (Some (Some x)) count place = if x.place == place then replicate count x.number else []
 written_by_entry entry count place = []
 
 -- the same of a delivery by an index to a queue pair

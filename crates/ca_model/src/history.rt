@@ -36,6 +36,15 @@ impl History {
         }
     }
 
+    /// The history of these entries, whose stamps count from 0 and each of which has the marks that its event may have. It
+    /// takes no memory.
+    pub fn of(entries: Vec<Entry>) -> History
+        requires { IsHistory (map entry_of entries.items) }
+        ensures { result ≡ map entry_of entries.items }
+    {
+        History { entries }
+    }
+
     /// How many entries there are.
     pub fn len(&self) -> usize
         ensures { result ≡ length self.now }

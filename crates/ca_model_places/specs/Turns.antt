@@ -13,8 +13,8 @@ use Rattle.ca_model.specs.declared.event.Event.{Event}
 use Rattle.ca_model.specs.declared.event.Event.TheVariants as events
 use Rattle.ca_model.specs.machine.Turns.{reaches_peer}
 use Rattle.ca_model.specs.machine.World.{World}
-use Rattle.ca_model_places.specs.declared.turn.Turn.{Turn}
-use Rattle.ca_model_places.specs.declared.turn.Turn.TheVariants as turns
+use Rattle.ca_base.specs.declared.step.Turn.{Turn}
+use Rattle.ca_base.specs.declared.step.Turn.TheVariants as turns
 
 -- the lot of what a queue pair sends: the weather's for the next envelope of its peer's mailbox, where this accepts the
 -- queue pair, and else Pass

@@ -10,8 +10,6 @@
 
 mod laws;
 mod places;
-mod turn;
 
 pub use laws::each_part_has_a_place;
 pub use places::{is_configured, place};
-pub use turn::Turn;

@@ -29,6 +29,9 @@ mod CarriedReadWithoutAResponse
 mod CarriedRequestAsAResponse
 mod CarriedResponseOfOtherBytes
 mod CarriedSuccessWithoutAResponse
+mod CarriedTwoActsOfAPlaceNeverPosted
+mod CarriedTwoActsOfAQueuePairWithItself
+mod CarriedTwoActsOfAWrite
 mod CarriedTwoReadsInOneResponse
 mod CarriedTwoRequestsWithOnePsn
 mod CarriedWithoutAnIndexNotLost

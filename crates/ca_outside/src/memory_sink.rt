@@ -63,10 +63,10 @@ impl MemorySink {
     }
 
     /// The bytes that the sink took, in order.
-    pub fn bytes(&self) -> &[u8]
+    pub fn taken(&self) -> &[u8]
         ensures { result.now ≡ self.now.held }
     {
-        self.sink.bytes()
+        self.sink.taken()
     }
 }
 

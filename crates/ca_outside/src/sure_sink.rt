@@ -40,7 +40,7 @@ impl SureSink {
     }
 
     /// The bytes that the sink took, in order.
-    pub fn bytes(&self) -> &[u8]
+    pub fn taken(&self) -> &[u8]
         ensures { result.now ≡ self.now.held }
     {
         self.bytes.as_slice()

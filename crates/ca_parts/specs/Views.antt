@@ -11,7 +11,7 @@ is_late n = nat_le LATE_STAMP n
 module _ {S E N T : Type 0} where
   -- the first pass over a row
   abbrev pub first_view : S → View S E N T
-  first_view key = record { settings = Some key; first = 0; count = MAX_PASSES; share = MAX_PASSES; event = None; giving = false; out = None; hand = []; looked = None; refused = []; notes = []; entries = []; late = 0; burnt = false }
+  first_view key = record { settings = Some key; first = 0; count = MAX_PASSES; share = MAX_PASSES; passes = 1; event = None; giving = false; out = None; hand = []; looked = None; refused = []; notes = []; entries = []; late = 0; burnt = false }
 
   -- the part is in hand, last of all, with the value, and it was taken for the event
   abbrev pub with_part : E → ℕ → T → View S E N T → View S E N T
@@ -39,12 +39,13 @@ module _ {S E N T : Type 0} where
 
   -- the new pass: the upper half, rounded down, and nothing else
   abbrev pub upper_half : View S E N T → View S E N T
-  upper_half v = record { settings = v.settings; first = v.first + (v.count - v.count / 2); count = v.count / 2; share = v.share / 2; event = None; giving = false; out = None; hand = []; looked = None; refused = []; notes = []; entries = []; late = 0; burnt = false }
+  upper_half v = record { settings = v.settings; first = v.first + (v.count - v.count / 2); count = v.count / 2; share = v.share / 2; passes = 1; event = None; giving = false; out = None; hand = []; looked = None; refused = []; notes = []; entries = []; late = 0; burnt = false }
 
-  -- a pass with what another had: its share, refusals, notes and entries. The numbers of the other are not used again
+  -- a pass with what another had: its share, the passes that it is made of, its refusals, notes and entries. The numbers of
+  -- the other are not used again
   abbrev pub joined_with : View S E N T → View S E N T → View S E N T
-  joined_with v w = record v { share = v.share + w.share; refused = v.refused ++ w.refused; notes = v.notes ++ w.notes; entries = v.entries ++ w.entries; late = v.late + w.late }
+  joined_with v w = record v { share = v.share + w.share; passes = v.passes + w.passes; refused = v.refused ++ w.refused; notes = v.notes ++ w.notes; entries = v.entries ++ w.entries; late = v.late + w.late }
 
   -- what is left of a pass that another took in
   abbrev pub spent_view : View S E N T
-  spent_view = record { settings = None; first = 0; count = 0; share = 0; event = None; giving = false; out = None; hand = []; looked = None; refused = []; notes = []; entries = []; late = 0; burnt = false }
+  spent_view = record { settings = None; first = 0; count = 0; share = 0; passes = 0; event = None; giving = false; out = None; hand = []; looked = None; refused = []; notes = []; entries = []; late = 0; burnt = false }

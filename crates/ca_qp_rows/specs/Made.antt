@@ -4,8 +4,8 @@ use Rattle.std.specs.Prelude.{◌≡◌, ℕ, ◌+◌, ◌≤◌, List, [], ◌�
 use Rattle.ca_keys.specs.declared.access.Ask.{Ask}
 use Rattle.ca_base.specs.declared.step.Reason.{Reason}
 use Rattle.ca_base.specs.declared.step.Sent.{Sent}
-use Rattle.ca_base.specs.declared.step.StepError.{StepError}
-use Rattle.ca_base.specs.declared.step.StepError.TheVariants as steps
+use Rattle.ca_base.specs.declared.step.ActError.{ActError}
+use Rattle.ca_base.specs.declared.step.ActError.TheVariants as steps
 use Rattle.ca_base.specs.objects.QueuePair.{QueuePair}
 use Rattle.ca_wire.specs.declared.packet.TheConstants.{MAX_PACKET_BYTES}
 use Rattle.ca_qpstate.specs.ca_model.Marks.{MarkList}
@@ -70,7 +70,7 @@ IsUnable (Does e) reason = ⊥
 IsUnable (NotPossible r) reason = reason ≡ r
 
 -- a turn was done as its row ends, or nothing changed
-abbrev pub IsTurn : {S : Type 0} → (S → Ask → List ℕ → S) → Result Sent StepError → Ending → QueuePair → QueuePair → MarkList → MarkList → S → S → List ℕ → List ℕ → Type 0
+abbrev pub IsTurn : {S : Type 0} → (S → Ask → List ℕ → S) → Result Sent ActError → Ending → QueuePair → QueuePair → MarkList → MarkList → S → S → List ℕ → List ℕ → Type 0
 IsTurn written (Ok sent) ending queue_before queue_after before after reach_before reach_after out_before out_after =
     HasTurned written sent ending queue_after before after reach_before reach_after out_before out_after
 IsTurn written (Err (steps.NotReady reason)) ending queue_before queue_after before after reach_before reach_after out_before out_after =

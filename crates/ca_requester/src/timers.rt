@@ -5,7 +5,7 @@ ghost use Rattle.ca_model.specs.machine.Timers as timers;
 ghost use Rattle.ca_requester.specs.Timers.{IsPlainStep, IsStep};
 
 use ca_base::limits::MAX_RETRY;
-use ca_base::{Reason, RequesterNumbers, StepError};
+use ca_base::{ActError, Reason, RequesterNumbers};
 use ca_model::{Mark, Marks};
 use ca_requester_sends::ca_qpstate::QueuePart;
 use ca_requester_sends::{is_sending, make, one_retry};
@@ -19,13 +19,13 @@ pub fn on_timeout(
     silent: bool,
     hasten: bool,
     marks: &mut Marks,
-) -> Result<(), StepError>
+) -> Result<(), ActError>
     requires { CanStep q.old }
     ensures { IsStep result (first_of (timers.timeout_refusals silent hasten q.old)) (timers.after_timeout silent q.old)
         q.old q.new marks.old marks.new }
 {
     if let Some(reason) = timeout_refusal(q, silent, hasten) {
-        return Err(StepError::NotReady(reason));
+        return Err(ActError::NotReady(reason));
     }
     let counted = RequesterNumbers {
         timers: q.requester.timers + 1,

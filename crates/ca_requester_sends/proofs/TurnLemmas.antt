@@ -13,8 +13,8 @@ use Rattle.ca_keys.specs.declared.verdict.Verdict.TheVariants as verdicts
 use Rattle.ca_base.specs.Sight.{Sight, bytes_in}
 use Rattle.ca_base.specs.declared.request.PostedSend.{PostedSend}
 use Rattle.ca_base.specs.declared.step.Sent.{Sent}
-use Rattle.ca_base.specs.declared.step.StepError.{StepError}
-use Rattle.ca_base.specs.declared.step.StepError.TheVariants as steps
+use Rattle.ca_base.specs.declared.step.ActError.{ActError}
+use Rattle.ca_base.specs.declared.step.ActError.TheVariants as steps
 use Rattle.ca_model.specs.Marks.{MarkList}
 use Rattle.ca_model.specs.machine.Row.{Ending, NotPossible, Does}
 use Rattle.ca_qp_rows.specs.Made.{IsTurn}
@@ -142,7 +142,7 @@ little q n is le = none-of-three _ _ _
     upto = end_of_packet q n
 
 -- a turn from marks is one from others that are the same, whatever room there is
-pub turn_before : {S : Type 0} (written : S → Ask → List ℕ → S) (r : Result Sent StepError) (ending : Ending) (q after : QueuePair) (old same new : MarkList)
+pub turn_before : {S : Type 0} (written : S → Ask → List ℕ → S) (r : Result Sent ActError) (ending : Ending) (q after : QueuePair) (old same new : MarkList)
     (reach reached : S) (out spelt : List ℕ) → same.marks ≡ old.marks
     → IsTurn written r ending q after same new reach reached out spelt → IsTurn written r ending q after old new reach reached out spelt
 turn_before written (Ok sent) (Does e) q after old same new reach reached out spelt is t =

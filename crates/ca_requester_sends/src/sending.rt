@@ -22,7 +22,7 @@ use crate::packet::{fill_packet_asks, spell};
 use crate::turn::{Found, end_of_packet, sending_of};
 use arrayvec::ArrayVec;
 use ca_base::limits::MAX_PIECES;
-use ca_base::{Ask, Memory, Reason, Sent, StepError, WcStatus};
+use ca_base::{ActError, Ask, Memory, Reason, Sent, WcStatus};
 use ca_model::{Marks, SPARE_MARKS};
 use ca_qp_rows::ca_grant::Reach;
 use ca_qp_rows::ca_qpstate::QueuePart;
@@ -50,7 +50,7 @@ pub fn next_packet<R: Reach>(
     room: bool,
     marks: &mut Marks,
     out: &mut Vec<u8>,
-) -> Result<Sent, StepError>
+) -> Result<Sent, ActError>
     requires sends { SendsFound q.old found.now }
     requires at_hand { AreAtHand R.sight R.judges R.touches reach.old (turn_row q.old room).asks }
     ensures turn { IsTurn R.written result (ending_of (R.sight reach.old) (turn_row q.old room))
@@ -88,7 +88,7 @@ fn send_nothing<R: Reach>(
     room: bool,
     asks: &[Ask],
     marks: &mut Marks,
-) -> Result<Sent, StepError>
+) -> Result<Sent, ActError>
     requires queue { IsQueue q.old }
     requires asks { CanJudge R.judges reach.now asks.now }
     requires nothing { room ≡ true → is_some (sights.first_denied (R.sight reach.now) asks.now) ≡ true }
@@ -98,10 +98,10 @@ fn send_nothing<R: Reach>(
         q.old q.new marks.old marks.new reach.now reach.now out out }
 {
     let Some(denied) = first_denied(reach, asks) else {
-        return Err(StepError::NotReady(Reason::NoRoom));
+        return Err(ActError::NotReady(Reason::NoRoom));
     };
     if let Some(reason) = denied_refusal(q, room) {
-        return Err(StepError::NotReady(reason));
+        return Err(ActError::NotReady(reason));
     }
     let denial = local_denial(&denied);
     fail_oldest(q, WcStatus::LocalProtection, None, Some(denial), marks)?;

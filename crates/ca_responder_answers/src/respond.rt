@@ -15,7 +15,7 @@ use crate::answer::next_answer;
 use crate::flush::{FlushedReceives, push_flush};
 use crate::read_left::{is_last_response, response_ask, response_segment, rest_of};
 use crate::remote::remote_mark;
-use ca_base::{Ask, Bytes, Denial, Memory, Queued, Sent, StepError, Verdict};
+use ca_base::{ActError, Ask, Bytes, Denial, Memory, Queued, Sent, Verdict};
 use ca_model::{Marks, ReadLeft, SPARE_MARKS};
 use ca_qp_rows::ca_grant::Reach;
 use ca_qp_rows::ca_qpstate::QueuePart;
@@ -84,7 +84,7 @@ pub fn next_response<R: Reach>(
     room: bool,
     marks: &mut Marks,
     out: &mut Vec<u8>,
-) -> Result<Sent, StepError>
+) -> Result<Sent, ActError>
     requires step { CanStep q.old }
     requires at_hand { AreAtHand R.sight R.judges R.touches reach.old (rows.respond_row room q.old).asks }
     ensures turn { IsTurn R.written result (ending_of (R.sight reach.old) (rows.respond_row room q.old))
@@ -94,7 +94,7 @@ pub fn next_response<R: Reach>(
 {
     match next_answer(q, room) {
         Ok(answer) => send_answer(q, reach, answer, marks, out),
-        Err(reason) => Err(StepError::NotReady(reason)),
+        Err(reason) => Err(ActError::NotReady(reason)),
     }
 }
 
@@ -105,7 +105,7 @@ fn send_answer<R: Reach>(
     answer: Queued,
     marks: &mut Marks,
     out: &mut Vec<u8>,
-) -> Result<Sent, StepError>
+) -> Result<Sent, ActError>
     requires step { CanStep q.old }
     requires front { slice_get q.old.responder.answers 0 ≡ Some answer }
     requires at_hand { AreAtHand R.sight R.judges R.touches reach.old (rows.answer_turn q.old answer).asks }
@@ -202,7 +202,7 @@ fn send_read<R: Reach>(
     r: &ReadLeft,
     marks: &mut Marks,
     out: &mut Vec<u8>,
-) -> Result<Sent, StepError>
+) -> Result<Sent, ActError>
     requires can { CanRespond q.old r.now }
     requires at_hand { AreAtHand R.sight R.judges R.touches reach.old (rows.read_row q.old r.now).asks }
     ensures turn { IsTurn R.written result (ending_of (R.sight reach.old) (rows.read_row q.old r.now))

@@ -20,7 +20,7 @@ use Rattle.ca_script.specs.Script.{ScriptValue}
 use Rattle.ca_script_run.specs.Progress.{lines_behind}
 use Rattle.ca_verbs.specs.ca_verbs_taking.Holding.{Known}
 use Rattle.ca_verbs.specs.ca_verbs_taking.Taking.{SameRecord}
-use Rattle.ca_model_places.specs.declared.turn.Turn.{Turn}
+use Rattle.ca_base.specs.declared.step.Turn.{Turn}
 use Rattle.ca_verbs.specs.Passes.{IsOf, IsReceipt, known_of}
 use Rattle.ca_verbs.specs.Tried.{told_of}
 use Rattle.ca_verbs.specs.declared.fabric.Fabric.{Fabric}

@@ -18,7 +18,7 @@ use Rattle.ca_verbs_scripts.specs.Work.{AreDoneBy, Call, HasCalled, HasWorked, I
 use Rattle.ca_script.specs.Script.{ScriptValue}
 use Rattle.ca_script_lines.specs.declared.Line.{Line}
 use Rattle.ca_script_run.specs.Progress.{lines_behind}
-use Rattle.ca_model_places.specs.declared.turn.Turn.{Turn}
+use Rattle.ca_base.specs.declared.step.Turn.{Turn}
 use Rattle.ca_verbs.specs.Tried.{told_of}
 
 -- ---- nothing is done yet

@@ -1,7 +1,7 @@
 ghost use Rattle.std.specs.Prelude.{◌≡◌, true};
 ghost use Rattle.ca_verbs_scripts.specs.Work.{IsWorkersTurn};
 
-use ca_model_places::Turn;
+use ca_base::Turn;
 
 /// Whether a worker tries a turn: a delivery of what is due, a response or a request, and no timer.
 pub(crate) fn is_workers(turn: Turn) -> bool

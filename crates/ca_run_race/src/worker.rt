@@ -6,9 +6,8 @@ ghost use Rattle.ca_verbs.specs.declared.fabric.Fabric as shared;
 
 use crate::visits::visit;
 use crate::work::Work;
-use ca_base::Memory;
+use ca_base::{Memory, Turn};
 use ca_engine::{Engine, Offer, Outcome};
-use ca_model_places::Turn;
 use ca_outside::Gate;
 use ca_script::Script;
 use ca_verbs::{Fabric, Pass};

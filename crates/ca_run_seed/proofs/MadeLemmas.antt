@@ -30,7 +30,9 @@ each-all P f i (suc n) all = (all i, each-all P f (i + 1) n all)
 adapter-limited : IsLimitedAdapter made_adapter
 adapter-limited = record {
   buffers = omega arith;
+  least_bytes = (omega arith, record {});
   bytes = (omega arith, record {});
+  least_domains = omega arith;
   domains = omega arith;
   regions = omega arith;
   windows = omega arith;
@@ -42,10 +44,12 @@ adapter-limited = record {
 pub made-limited : (seed : ℕ) → AreLimited (made_script seed).config
 unfolding made_script
 made-limited seed = record {
+  least_count = omega arith;
   count = omega arith;
   adapters = (adapter-limited, (adapter-limited, record {}));
   bytes = omega arith;
   parts = omega arith;
+  least_events = omega arith;
   events = omega arith;
 }
 

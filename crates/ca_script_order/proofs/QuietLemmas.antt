@@ -12,8 +12,8 @@ use Rattle.ca_script.specs.ca_script_lines.declared.Line.{Line}
 use Rattle.ca_script.specs.ca_script_lines.declared.what.What.{What}
 use Rattle.ca_script.specs.ca_script_lines.declared.what.What.TheVariants as whats
 use Rattle.ca_model_places.specs.Turns.{event_of}
-use Rattle.ca_model_places.specs.declared.turn.Turn.{Turn}
-use Rattle.ca_model_places.specs.declared.turn.Turn.TheVariants as turns
+use Rattle.ca_base.specs.declared.step.Turn.{Turn}
+use Rattle.ca_base.specs.declared.step.Turn.TheVariants as turns
 use Rattle.ca_script_order.specs.Visits.{Visit, Consumer, Engine, all_queues, numbers_below, round_of}
 use Rattle.ca_script_order.specs.Order.{HasNoMoreLines, Stage, after_event, after_line, after_outcome, after_rounds, after_visit, ending, lines_of, most_rounds, with_lines_left}
 use Rattle.ca_script_order.specs.OfScript.{HasEnded, is_possible, is_passed, lines_at, may_call, may_go_on, may_turn, may_work}

@@ -26,8 +26,8 @@ use Rattle.ca_script.specs.ca_script_lines.declared.Line.{Line}
 use Rattle.ca_script.specs.ca_script_lines.declared.what.What.{What}
 use Rattle.ca_script.specs.ca_script_lines.declared.what.What.TheVariants as whats
 use Rattle.ca_model_places.specs.Turns.{hasten_at, lot_at}
-use Rattle.ca_model_places.specs.declared.turn.Turn.{Turn}
-use Rattle.ca_model_places.specs.declared.turn.Turn.TheVariants as turns
+use Rattle.ca_base.specs.declared.step.Turn.{Turn}
+use Rattle.ca_base.specs.declared.step.Turn.TheVariants as turns
 use Rattle.ca_script_order.specs.Visits.{Visit, Consumer, Engine, all_queues, numbers_below, round_of, timer_pass_of}
 use Rattle.ca_script_order.specs.Order.{Stage, after_event, after_first, after_line, after_outcome, after_pass, after_round, after_rounds, after_visit, and_again, at_round, ending, has_no_event_left, lines_of, most_rounds, opening_stage, order, with_lines_left}
 use Rattle.ca_script_order.specs.OfScript.{LeadsTo, Reach, calls_by, is_call, is_idle, is_passed, left_after, lines_at, lot_eq, may_call, may_go_on, may_stand, may_work, opening_reach, reach, reach_by, reach_from, verbs_in}

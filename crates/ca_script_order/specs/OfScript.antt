@@ -19,8 +19,8 @@ use Rattle.ca_script.specs.ca_script_lines.declared.Line.{Line}
 use Rattle.ca_script.specs.ca_script_lines.declared.what.What.{What}
 use Rattle.ca_script.specs.ca_script_lines.declared.what.What.TheVariants as whats
 use Rattle.ca_model_places.specs.Turns.{event_of, hasten_at, lot_at}
-use Rattle.ca_model_places.specs.declared.turn.Turn.{Turn}
-use Rattle.ca_model_places.specs.declared.turn.Turn.TheVariants as turns
+use Rattle.ca_base.specs.declared.step.Turn.{Turn}
+use Rattle.ca_base.specs.declared.step.Turn.TheVariants as turns
 use Rattle.ca_script_order.specs.Visits.{all_queues, numbers_below}
 use Rattle.ca_script_order.specs.Order.{Stage, has_no_event_left, lines_of}
 

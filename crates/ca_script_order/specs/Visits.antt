@@ -5,8 +5,8 @@ use Rattle.ca_base.specs.Configuration.{Adapter, Configuration}
 use Rattle.ca_keys.specs.declared.names.QueueId.{QueueId}
 use Rattle.ca_keys.specs.Numbers.{queue_of}
 use Rattle.ca_script.specs.Script.{ScriptValue}
-use Rattle.ca_model_places.specs.declared.turn.Turn.{Turn}
-use Rattle.ca_model_places.specs.declared.turn.Turn.TheVariants as turns
+use Rattle.ca_base.specs.declared.step.Turn.{Turn}
+use Rattle.ca_base.specs.declared.step.Turn.TheVariants as turns
 
 -- a visit: of a consumer, or of an engine for a turn
 pub data Visit : Type 0 where

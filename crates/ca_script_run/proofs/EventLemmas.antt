@@ -4,7 +4,7 @@ use Rattle.std.proofs.lemmas.List.{length-reverse, reverse-append}
 use Rattle.ca_adapter_store.proofs.of_ca_law_endings.EventFitLemmas.{event-fits}
 use Rattle.ca_adapter_store.specs.ca_law_endings.Runs.{Comes}
 use Rattle.ca_base.specs.declared.step.Reason.{Reason}
-use Rattle.ca_base.specs.declared.step.StepError.TheVariants as steps
+use Rattle.ca_base.specs.declared.step.ActError.TheVariants as steps
 use Rattle.ca_engine.specs.declared.outcome.Outcome as outcomes-of
 use Rattle.ca_engine.specs.declared.outcome.Outcome.TheVariants as outcomes
 use Rattle.ca_model.specs.Entries.{EntryValue}

@@ -22,8 +22,8 @@ use Rattle.ca_script_run.specs.Known.{AreKnown, AreKnownFrom, AreLeft, ComesTo, 
 use Rattle.ca_script_run.specs.Vain.{IsIdle, Sees}
 use Rattle.ca_script_run.specs.declared.known.Known.{Known}
 use Rattle.ca_script_run.specs.declared.known.TheConstants.{BLOCK}
-use Rattle.ca_model_places.specs.declared.turn.Turn.{Turn}
-use Rattle.ca_model_places.specs.declared.turn.Turn.TheVariants as turns
+use Rattle.ca_base.specs.declared.step.Turn.{Turn}
+use Rattle.ca_base.specs.declared.step.Turn.TheVariants as turns
 
 -- ---- flags
 

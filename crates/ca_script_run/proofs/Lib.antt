@@ -8,3 +8,4 @@ mod OpenLemmas
 mod WorkLemmas
 mod PassLemmas
 mod StatusLemmas
+mod WorkableLemmas

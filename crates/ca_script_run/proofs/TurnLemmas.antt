@@ -34,8 +34,8 @@ use Rattle.ca_adapter_store.specs.declared.row.Row as rows
 use Rattle.ca_adapter_store.specs.ca_requester_sends.Turn.{is_performing, turn_row}
 use Rattle.ca_script_run.specs.Vain.{CanStepSeen, HasNoQueue, HasNoRequest, IsIdle, IsInVain, OwesNoAnswer, Waits}
 use Rattle.ca_model_places.specs.Turns.{event_of, lot_at}
-use Rattle.ca_model_places.specs.declared.turn.Turn.{Turn}
-use Rattle.ca_model_places.specs.declared.turn.Turn.TheVariants as turns
+use Rattle.ca_base.specs.declared.step.Turn.{Turn}
+use Rattle.ca_base.specs.declared.step.Turn.TheVariants as turns
 
 -- ---- whether a queue pair is there
 

@@ -14,7 +14,7 @@ use Rattle.ca_script_run.specs.Progress.{IsAt, IsVisited}
 use Rattle.ca_script_run.specs.Vain.{IsInVain}
 use Rattle.ca_script_run.specs.declared.progress.Progress.{Progress}
 use Rattle.ca_model_places.specs.Turns.{event_of}
-use Rattle.ca_model_places.specs.declared.turn.Turn.{Turn}
+use Rattle.ca_base.specs.declared.step.Turn.{Turn}
 
 module _ (s : ScriptValue) (g : Stage) (turn : Turn) (p : Progress) (count : ℕ) (at : IsAt s g p) (numbered : count ≡ p.row.count) where
   at-round : IsAt s (at_round g) p

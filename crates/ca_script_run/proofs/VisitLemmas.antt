@@ -22,7 +22,7 @@ use Rattle.ca_script_run.proofs.LineLemmas.{line_passed}
 use Rattle.ca_script_run.specs.Progress.{IsAt, IsTried, IsVisited, lines_behind, told_of}
 use Rattle.ca_script_run.specs.declared.progress.Progress.{Progress}
 use Rattle.ca_model_places.specs.Turns.{event_of}
-use Rattle.ca_model_places.specs.declared.turn.Turn.{Turn}
+use Rattle.ca_base.specs.declared.step.Turn.{Turn}
 
 abbrev did : Outcome → Bool
 did outcomes.Did = true

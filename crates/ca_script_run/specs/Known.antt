@@ -17,8 +17,8 @@ use Rattle.ca_adapter_store.specs.declared.row.Row.{Row}
 use Rattle.ca_script_run.specs.Vain.{IsIdle}
 use Rattle.ca_script_run.specs.declared.known.Known.{Known}
 use Rattle.ca_script_run.specs.declared.known.TheConstants.{BLOCK}
-use Rattle.ca_model_places.specs.declared.turn.Turn.{Turn}
-use Rattle.ca_model_places.specs.declared.turn.Turn.TheVariants as turns
+use Rattle.ca_base.specs.declared.step.Turn.{Turn}
+use Rattle.ca_base.specs.declared.step.Turn.TheVariants as turns
 
 -- ---- places
 

@@ -16,8 +16,8 @@ use Rattle.ca_script_order.specs.OfScript.{is_possible}
 use Rattle.ca_adapter_store.specs.Looks.{IsQueueIn}
 use Rattle.ca_adapter_store.specs.ca_requester_sends.Turn.{IsWaiting}
 use Rattle.ca_model_places.specs.Turns.{event_of}
-use Rattle.ca_model_places.specs.declared.turn.Turn.{Turn}
-use Rattle.ca_model_places.specs.declared.turn.Turn.TheVariants as turns
+use Rattle.ca_base.specs.declared.step.Turn.{Turn}
+use Rattle.ca_base.specs.declared.step.Turn.TheVariants as turns
 
 -- an engine may take a step with the queue pair that is seen, if one is
 abbrev pub CanStepSeen : Option QueueSlot → Type 0

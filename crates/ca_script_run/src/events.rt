@@ -7,7 +7,7 @@ ghost use Rattle.ca_script_run.specs.Progress.{IsAt, IsLeftBy, IsTried, IsUnderW
 
 use crate::known::Known;
 use crate::progress::Progress;
-use ca_base::{Memory, StepError};
+use ca_base::{ActError, Memory};
 use ca_engine::Outcome;
 use ca_model::{Entry, Event};
 use std::alloc::Global;
@@ -55,7 +55,7 @@ fn make(alloc: Global, event: Event, progress: &mut Progress) -> Result<Outcome,
             progress.history.push(entry)?;
             Ok(Outcome::Did)
         }
-        Err(StepError::NotReady(_)) => Ok(Outcome::NotReady(stamp)),
-        Err(StepError::Memory) => Err(Memory),
+        Err(ActError::NotReady(_)) => Ok(Outcome::NotReady(stamp)),
+        Err(ActError::Memory) => Err(Memory),
     }
 }

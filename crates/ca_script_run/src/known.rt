@@ -11,10 +11,9 @@ ghost use Rattle.ca_script_run.specs.Vain.{IsIdle};
 
 use ca_adapter_store::Taken;
 use ca_base::limits::MAX_DOMAINS;
-use ca_base::{Config, Memory, QueueId};
+use ca_base::{Config, Memory, QueueId, Turn};
 use ca_engine::Engine;
 use ca_model::PartName;
-use ca_model_places::Turn;
 use std::alloc::Global;
 
 /// So many offers of a round are a block.

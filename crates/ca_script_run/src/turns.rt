@@ -11,10 +11,9 @@ ghost use Rattle.ca_model_places.specs.Turns as turns;
 use ca_adapter_store::Row;
 use ca_adapter_store::ca_adapter_parts::QueueSlot;
 use ca_adapter_store::ca_requester_sends::next_turn;
-use ca_base::{Lot, QueueId};
+use ca_base::{Lot, QueueId, Turn};
 use ca_mailbox::Weather;
 use ca_model::Event;
-use ca_model_places::Turn;
 use ca_qpstate::QueuePart;
 
 /// Whether a turn is seen at once not to be possible: no queue pair is in its slot, its requester waits, or its responder

@@ -8,8 +8,8 @@ use Rattle.ca_verbs_taking.specs.ca_adapter.Ready.{IsReady}
 use Rattle.ca_base.specs.Configuration.{configuration_in}
 use Rattle.ca_base.specs.declared.settings.Settings.{Settings}
 use Rattle.ca_base.specs.declared.step.Reason.TheVariants as reasons
-use Rattle.ca_base.specs.declared.step.StepError.{StepError}
-use Rattle.ca_base.specs.declared.step.StepError.TheVariants as steps
+use Rattle.ca_base.specs.declared.step.ActError.{ActError}
+use Rattle.ca_base.specs.declared.step.ActError.TheVariants as steps
 use Rattle.ca_verbs_machine.specs.After.{IsStep, IsUp, next_world, world_after, world_left}
 use Rattle.ca_verbs_machine.specs.Asks.{asked_needs}
 use Rattle.ca_verbs_machine.specs.Laws.{none-needed}
@@ -43,14 +43,24 @@ use Rattle.ca_verbs_taking.proofs.HandLemmas.{IsNamed, held-shown, named, same-n
 use Rattle.ca_verbs_taking.proofs.SeenLemmas.{parts-of-world, seen-world}
 use Rattle.ca_verbs_taking.specs.Holding.{AreShown, IsHolding, Known, hand_of}
 use Rattle.ca_verbs_taking.specs.declared.in_hand.InHand.{InHand}
-use Rattle.ca_verbs_taking.specs.Taking.{SameRecord, TookAll, WasStopped}
+use Rattle.ca_verbs_taking.specs.Taking.{HasLooked, SameRecord, TookAll, WasStopped}
 use Rattle.ca_verbs_taking.specs.declared.take_error.TakeError.{TakeError}
 use Rattle.ca_verbs_taking.specs.declared.take_error.TakeError.TheVariants as takes
 use Rattle.ca_mailbox.specs.declared.weather.Weather.{Weather}
 use Rattle.ca_model_places.specs.Turns.{event_of}
-use Rattle.ca_model_places.specs.declared.turn.Turn.{Turn}
+use Rattle.ca_base.specs.declared.step.Turn.{Turn}
 use Rattle.ca_verbs.proofs.TurnLemmas.{turn-same}
 use Rattle.ca_verbs.specs.Tried.{IsEventOf, IsMade, IsNotPossible, WasNotMade, WasNotReady, error_of, refusal_of, told_of}
+
+-- a look stays noted where no more is noted
+noted-still : (n : ℕ) (hand : List (ℕ × PartValue)) (old mid new : Known) → HasLooked n hand old mid → new.notes ≡ mid.notes → HasLooked n hand old new
+noted-still n hand old mid new is notes = record {
+  between = is.between;
+  noted = notes ∙ is.noted;
+  later = is.later;
+  read = is.read;
+  before = is.before;
+}
 
 -- the parts in hand after the event show the world after it
 shows-after : (h k : Held) (w v u : World) → ShowsHeld (holding h).parts (holding h).world w → Shows v (holding k) → (holding k).has ≡ (holding h).has → LeavesUnheld (holding h) w v
@@ -157,8 +167,8 @@ module _ (key : Settings) (asked : Asked) (n : ℕ) (first v : Known) (h : Held)
 
       -- the entry is made
       pub made-of : (stamp : ℕ) (mid new : Known) → mid ≡ with_entry (told_of asked event m.marks) news stamp v → Sees next_of CanFollow StandsFor key stamp v → SameRecord mid new
-          → new.refused ≡ mid.refused → SameRecord first v → IsMade key (told_of asked event m.marks) stamp first new
-      made-of stamp mid new added sees same refused before = record {
+          → new.notes ≡ mid.notes → new.refused ≡ mid.refused → SameRecord first v → IsMade key (told_of asked event m.marks) stamp first new
+      made-of stamp mid new added sees same notes refused before = record {
         added = same.1 ∙ ap (λ (u : Known). u.entries) added ∙ ap (λ es. es ++ (stamp, told_of asked event m.marks) ∷ []) before.1;
         log = sees.log;
         length_is = sees.length_is;
@@ -166,7 +176,14 @@ module _ (key : Settings) (asked : Asked) (n : ℕ) (first v : Known) (h : Held)
         step = λ up few. step-of sees.log up sees.hand_stands;
         later = λ i x has. (sees.entries_true i x (subst (λ es. Has (i, x) es) (sym before.1) has)).0;
         read = read;
-        share = same.0 ∙ ap (λ (u : Known). u.share) added ∙ before.0;
+        looked = n;
+        hand = v.hand;
+        needed = (took.taken, took.all);
+        noted = noted-still n v.hand first v new took.noted (notes ∙ ap (λ (u : Known). u.notes) added);
+        under = took.under;
+        before = sees.look_before n took.looked;
+        share = same.0.0 ∙ ap (λ (u : Known). u.share) added ∙ before.0.0;
+        passes = same.0.1 ∙ ap (λ (u : Known). u.passes) added ∙ before.0.1;
         refused = refused ∙ ap (λ (u : Known). u.refused) added ∙ took.refused;
       }
         where
@@ -174,48 +191,43 @@ module _ (key : Settings) (asked : Asked) (n : ℕ) (first v : Known) (h : Held)
           read i g has = let low : i ≤ n = took.noted.read i g has in let high : n ≤ stamp = sees.look_before n took.looked in omega (arith, low, high)
 
   -- the event was not possible, or memory ended: what is held is as it was
-  pub kept-of : (k : Held) (error : StepError) → IsAct (Err error) (step (configuration_in key) (holding h).world event) (holding h) (holding k) → holding k ≡ holding h
+  pub kept-of : (k : Held) (error : ActError) → IsAct (Err error) (step (configuration_in key) (holding h).world event) (holding h) (holding k) → holding k ≡ holding h
   kept-of k error own = by error (step (configuration_in key) (holding h).world event) own
     where
-      by : (e : StepError) (o : Outcome) → IsAct (Err e) o (holding h) (holding k) → holding k ≡ holding h
+      by : (e : ActError) (o : Outcome) → IsAct (Err e) o (holding h) (holding k) → holding k ≡ holding h
       by (steps.NotReady reason) (Did u ms) is = absurd is
       by (steps.NotReady reason) (NotReady why) is = is.1
       by steps.Memory (Did u ms) is = is
       by steps.Memory (NotReady why) is = is
 
-  pub not-made : (k : Held) (error : StepError) (new : Known) → ((w : World) → Shows w (holding h) → IsStepOf (Err error) (step (configuration_in key) w event) w (holding h) (holding k))
+  pub not-made : (k : Held) (error : ActError) (new : Known) → ((w : World) → Shows w (holding h) → IsStepOf (Err error) (step (configuration_in key) w event) w (holding h) (holding k))
       → new.notes ≡ v.notes → new.refused ≡ v.refused → WasNotMade key asked (refusal_of n error) first new
   not-made k steps.Memory new acts notes refused = refused ∙ took.refused
   not-made k (steps.NotReady reason) new acts notes refused = record {
     under = took.under;
     hand = v.hand;
-    noted = record {
-      between = took.noted.between;
-      noted = notes ∙ took.noted.noted;
-      later = took.noted.later;
-      read = took.noted.read;
+    noted = noted-still n v.hand first v new took.noted notes;
+    not_possible = record {
+      needed = (took.taken, took.all);
+      says = λ log count up stand. subst (λ o. IsNotPossible (configuration_in key) (world_after (configuration_in key) log) o reason) (sym (is_event log up stand))
+          (says (world_after (configuration_in key) log) (step (configuration_in key) (world_after (configuration_in key) log) event) refl
+          (acts (world_after (configuration_in key) log) (λ o has. shows-of log up stand o (part-of-held h o has))));
     };
-    log = took.seen.log;
-    length_is = took.seen.length_is;
-    up = took.seen.up;
-    says = subst (λ o. IsNotPossible (configuration_in key) (world_after (configuration_in key) took.seen.log) o reason) (sym (is_event took.seen.log took.seen.up took.seen.stand))
-        (says (step (configuration_in key) (world_after (configuration_in key) took.seen.log) event) refl
-        (acts (world_after (configuration_in key) took.seen.log) (λ o has. shows-of took.seen.log took.seen.up took.seen.stand o (part-of-held h o has))));
+    seen = took.seen;
     refused = refused ∙ took.refused;
   }
     where
-      says : (o : Outcome) → step (configuration_in key) (world_after (configuration_in key) took.seen.log) event ≡ o
-          → IsStepOf (Err (steps.NotReady reason)) o (world_after (configuration_in key) took.seen.log) (holding h) (holding k)
-          → step (configuration_in key) (world_after (configuration_in key) took.seen.log) event ≡ NotReady reason
-      says (Did u ms) e is = absurd is
-      says (NotReady why) e is = e ∙ ap NotReady (sym is.0)
+      says : (w : World) (o : Outcome) → step (configuration_in key) w event ≡ o → IsStepOf (Err (steps.NotReady reason)) o w (holding h) (holding k)
+          → step (configuration_in key) w event ≡ NotReady reason
+      says w (Did u ms) e is = absurd is
+      says w (NotReady why) e is = e ∙ ap NotReady (sym is.0)
 
 -- the same under a copy of the settings
-pub own-key : (key s : Settings) (event : Event) (r : Result MarkList StepError) (h k : Held) → s ≡ key → Acts r (plan (configuration_in s) event) h k
+pub own-key : (key s : Settings) (event : Event) (r : Result MarkList ActError) (h k : Held) → s ≡ key → Acts r (plan (configuration_in s) event) h k
     → IsAct r (step (configuration_in key) (holding h).world event) (holding h) (holding k)
 own-key key s event r h k same is = subst (λ z. Acts r (plan (configuration_in z) event) h k) same is
 
-pub steps-key : (key s : Settings) (event : Event) (r : Result MarkList StepError) (h k : Held) → s ≡ key
+pub steps-key : (key s : Settings) (event : Event) (r : Result MarkList ActError) (h k : Held) → s ≡ key
     → ((w : World) → Shows w (holding h) → IsStepOf r (step (configuration_in s) w event) w (holding h) (holding k))
     → (w : World) → Shows w (holding h) → IsStepOf r (step (configuration_in key) w event) w (holding h) (holding k)
 steps-key key s event r h k same all w shows = subst (λ z. IsStepOf r (step (configuration_in z) w event) w (holding h) (holding k)) same (all w shows)
@@ -248,16 +260,14 @@ stopped-as key asked (takes.Busy name) old mid new was notes refused = record {
   was = was.was;
   not_alone = was.not_alone;
   refused = refused ∙ was.refused;
+  looks = was.looks;
+  noted = notes ∙ was.noted;
+  under = was.under;
 }
 stopped-as key asked (takes.Full n) old mid new was notes refused = record {
   over = was.over;
   hand = was.hand;
-  noted = record {
-    between = was.noted.between;
-    noted = notes ∙ was.noted.noted;
-    later = was.noted.later;
-    read = was.noted.read;
-  };
+  noted = noted-still n was.hand old mid new was.noted notes;
   refused = refused ∙ was.refused;
 }
 
@@ -281,16 +291,12 @@ module _ (key : Settings) (turn : Turn) (weather : Weather) (n : ℕ) (first v :
   none-due new o is none notes refused = record {
     under = took.under;
     hand = v.hand;
-    noted = record {
-      between = took.noted.between;
-      noted = notes ∙ took.noted.noted;
-      later = took.noted.later;
-      read = took.noted.read;
+    noted = noted-still n v.hand first v new took.noted notes;
+    not_possible = record {
+      needed = (took.taken, took.all);
+      says = λ log count up stand. subst (λ e. IsNotPossible (configuration_in key) (world_after (configuration_in key) log) e reasons.Empty)
+          (sym (sym (turn-in log up stand) ∙ sym is ∙ none)) refl;
     };
-    log = took.seen.log;
-    length_is = took.seen.length_is;
-    up = took.seen.up;
-    says = subst (λ e. IsNotPossible (configuration_in key) (world_after (configuration_in key) took.seen.log) e reasons.Empty)
-        (sym (sym (turn-in took.seen.log took.seen.up took.seen.stand) ∙ sym is ∙ none)) refl;
+    seen = took.seen;
     refused = refused ∙ took.refused;
   }

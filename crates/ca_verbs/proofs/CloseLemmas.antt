@@ -1,16 +1,16 @@
 -- The entries of a fabric that is closed: each place below the clock is filled, and what stands there is the history. For
 -- proofs only.
-use Rattle.std.proofs.Common.{◌≡◌, ◌∙◌, refl, sym, ap, subst, ℕ, zero, suc, ◌+◌, ◌<◌, ◌≤◌, ◌==◌, inl, inr, ⊎_elim, arith, Bool, true, false, List, [], ◌∷◌, length, map, take, replicate, Option, None, Some, is_some, slice_get, if◌then◌else◌}
-use Rattle.std.proofs.lemmas.Bool.{eqb-true}
+use Rattle.std.proofs.Common.{◌≡◌, ◌∙◌, refl, sym, ap, subst, ℕ, zero, suc, ◌+◌, ◌<◌, ◌≤◌, ◌==◌, inl, inr, ⊎_elim, arith, Bool, true, false, true≢false, nat_le, List, [], ◌∷◌, length, map, take, replicate, Option, None, Some, is_some, slice_get, if◌then◌else◌}
+use Rattle.std.proofs.lemmas.Bool.{eq-eqb, eqb-true, le-leb, leb-false, leb-true}
 use Rattle.std.proofs.lemmas.List.{length-replicate}
 use Rattle.std.proofs.lemmas.Option.{none-some}
 use Rattle.std.specs.List.{AllByRecursion}
 use Rattle.std.specs.Option.{option_map_or}
 use Rattle.std.specs.Prelude.{Ok, ◌-◌, ◌^◌}
-use Rattle.ca_base.specs.Configuration.{configuration_in, part_count}
+use Rattle.ca_base.specs.Configuration.{Configuration, configuration_in, part_count}
 use Rattle.ca_base.specs.declared.settings.Settings.{Settings}
 use Rattle.ca_verbs_machine.specs.Steps.{up-follows, up-none, runs-marks}
-use Rattle.ca_verbs_machine.specs.After.{IsUp}
+use Rattle.ca_verbs_machine.specs.After.{IsUp, RunsFrom, next_world, world_after}
 use Rattle.ca_verbs_machine.specs.Meanings.{CanFollow, StandsFor, next_of}
 use Rattle.ca_verbs_machine.specs.Values.{PartValue}
 use Rattle.ca_verbs_machine.specs.declared.asked.Told.{Told}
@@ -20,13 +20,13 @@ use Rattle.ca_model.specs.declared.event.Event.{Event}
 use Rattle.ca_model.specs.declared.mark.Mark.{Mark}
 use Rattle.ca_model.specs.machine.Run.{run}
 use Rattle.ca_model.specs.machine.Sound.{AreLimited}
-use Rattle.ca_model.specs.machine.World.{opening_world}
-use Rattle.ca_parts.proofs.Lists.{below_one, bit_other, bit_same, one_below}
+use Rattle.ca_model.specs.machine.World.{World, opening_world}
+use Rattle.ca_parts.proofs.Lists.{below_at_most, below_one, bit_other, bit_same, one_below, times_has, times_without}
 use Rattle.ca_parts.specs.Calls.{IsWhole}
-use Rattle.ca_parts.specs.Lists.{Has, below, bit, numbers_of, times}
+use Rattle.ca_parts.specs.Lists.{Has, below, bit, numbers_of, times, without}
 use Rattle.ca_verbs_taking.specs.Holding.{Known}
-use Rattle.ca_verbs.specs.Closing.{AreRemains, IsFilled, IsHistoryOf, stamped_from, stamps_of}
-use Rattle.ca_verbs.specs.Kept.{Kept, kept_of, told_by}
+use Rattle.ca_verbs.specs.Closing.{AreInPlace, AreRemains, IsFilled, IsHistoryOf, stamped_from, stamps_of}
+use Rattle.ca_verbs.specs.Kept.{Kept, kept_of, late_count, told_by}
 
 -- the list without its first element that is this number
 abbrev dropped : ℕ → List ℕ → List ℕ
@@ -99,6 +99,18 @@ has-stamp e (x ∷ xs) h = ⊎_elim
     (λ (t : Has e xs). let some : 0 < times e.stamp (stamps_of xs) = has-stamp e xs t in
     let more : 0 < bit (e.stamp == x.stamp) + times e.stamp (stamps_of xs) = omega (arith, some) in more) h
 
+-- entries of one stamp, where it stands once, are one
+same-there : (m : ℕ) (es : List Entry) → times m (stamps_of es) ≤ 1 → (a b : Entry) → a.stamp ≡ m → b.stamp ≡ m → Has a es → Has b es → a ≡ b
+same-there m [] once a b sa sb ha hb = absurd ha
+same-there m (x ∷ xs) once a b sa sb ha hb = ⊎_elim (λ is. ⊎_elim (λ also. is ∙ sym also) (λ later. absurd (twice a b is sa sb later)) hb)
+    (λ there. ⊎_elim (λ also. absurd (twice b a also sb sa there)) (λ later. same-there m xs (omega (arith, once)) a b sa sb there later) hb) ha
+  where
+    twice : (c d : Entry) → c ≡ x → c.stamp ≡ m → d.stamp ≡ m → Has d xs → ⊥
+    twice c d is sc sd later =
+        let one : bit (m == x.stamp) ≡ 1 = bit_same m x.stamp (sym sc ∙ ap (λ (y : Entry). y.stamp) is) in
+        let more : 0 < times m (stamps_of xs) = subst (λ k. 0 < times k (stamps_of xs)) sd (has-stamp d xs later) in
+        omega (arith, once, one, more)
+
 has-kept : (e : Entry) (es : List Entry) → Has e es → Has (kept e) (kept_of es)
 has-kept e [] h = h
 has-kept e (x ∷ xs) h = ⊎_elim (λ (is : e ≡ x). inl (ap kept is)) (λ (t : Has e xs). inr (has-kept e xs t)) h
@@ -129,6 +141,11 @@ get-within : {A : Type 0} (xs : List A) (m : ℕ) (a : A) → slice_get xs m ≡
 get-within [] m a at = absurd (none-some a at)
 get-within (x ∷ xs) zero a at = omega arith
 get-within (x ∷ xs) (suc m) a at = let r : m < length xs = get-within xs m a at in omega (arith, r)
+
+get-there : {A : Type 0} (xs : List A) (m : ℕ) → m < length xs → (a : A) × (slice_get xs m ≡ Some a)
+get-there [] m less = absurd (omega (arith, less))
+get-there (x ∷ xs) zero less = (x, refl)
+get-there (x ∷ xs) (suc m) less = get-there xs m (omega (arith, less))
 
 some-same : {A : Type 0} (a b : A) → Some a ≡ Some b → a ≡ b
 some-same a b is = ap (λ o. option_map_or (λ x. x) o a) is
@@ -183,6 +200,58 @@ numbered-there m (t ∷ ts) some = by (m == t.0) refl (λ more. numbered-there m
         let r : (e : Told) × Has (m, e) ts = others (omega (arith, some, ap bit other)) in
         (r.0, inr r.1)
 
+-- a list of the machine begins with lists of the machine
+runs-first : (c : Configuration) (w : World) (m : ℕ) (log : List Told) → RunsFrom c w log → RunsFrom c w (take m log)
+runs-first c w zero log runs = record {}
+runs-first c w (suc m) [] runs = record {}
+runs-first c w (suc m) (t ∷ ts) runs = (runs.0, runs-first c (next_world c w t.event) m ts runs.1)
+
+first-length : {A : Type 0} (m : ℕ) (xs : List A) → length (take m xs) ≤ length xs
+first-length zero xs = omega arith
+first-length (suc m) [] = omega arith
+first-length (suc m) (x ∷ xs) = let r : length (take m xs) ≤ length xs = first-length m xs in omega (arith, r)
+
+up-first : (c : Configuration) (m : ℕ) (log : List Told) → IsUp c log → IsUp c (take m log)
+up-first c m log up = record {
+  limited = up.limited;
+  few = omega (arith, up.few, first-length m log);
+  runs = runs-first c (opening_world zeros) m log up.runs;
+}
+
+one-more : (n : ℕ) → 1 + n ≡ suc n
+one-more n = omega arith
+
+moved : (a b : ℕ) → a + suc b ≡ suc (a + b)
+moved a b = omega arith
+
+-- an entry less is a late one less, where it is late
+late-without : (limit k : ℕ) (e : Told) (ts : List (ℕ × Told)) → Has (k, e) ts → limit ≤ suc k → late_count limit ts ≡ suc (late_count limit (without k ts))
+late-without limit k e [] has late = absurd has
+late-without limit k e (t ∷ ts) has late = by (k == t.0) refl (λ there. late-without limit k e ts there late) has
+  where
+    by : (b : Bool) → (k == t.0) ≡ b → (Has (k, e) ts → late_count limit ts ≡ suc (late_count limit (without k ts))) → Has (k, e) (t ∷ ts)
+        → late_count limit (t ∷ ts) ≡ suc (late_count limit (if b then ts else t ∷ without k ts))
+    by true here on has = ap (λ (b : Bool). (if b then 1 else 0) + late_count limit ts) (ap (λ (n : ℕ). nat_le limit (suc n)) (sym (eqb-true k t.0 here)) ∙ le-leb limit (suc k) late) ∙ one-more (late_count limit ts)
+    by false other on has =
+        let there : Has (k, e) ts = ⊎_elim (λ (is : (k, e) ≡ t). absurd (true≢false (sym (eq-eqb k t.0 (ap (λ (x : ℕ × Told). x.0) is)) ∙ other))) (λ (rest : Has (k, e) ts). rest) has in
+        let rest : late_count limit ts ≡ suc (late_count limit (without k ts)) = on there in
+        ap (λ (m : ℕ). (if nat_le limit (suc t.0) then 1 else 0) + m) rest ∙ moved (if nat_le limit (suc t.0) then 1 else 0) (late_count limit (without k ts))
+
+-- where each late number below n has an entry, there are as many late entries
+late-reach : (limit n : ℕ) (ts : List (ℕ × Told)) → 1 ≤ limit → ((m : ℕ) → limit ≤ suc m → m < n → 0 < times m (numbers_of ts)) → suc n ≤ limit + late_count limit ts
+late-reach limit zero ts some each = omega (arith, some)
+late-reach limit (suc n) ts some each = by (nat_le limit (suc n)) refl (λ e has late. late-reach limit n (without n ts) some (λ m over less.
+    let more : 0 < times m (numbers_of ts) = each m over (omega (arith, less)) in
+    let other : bit (m == n) ≡ 0 = bit_other m n (λ e. absurd (omega (arith, e, less))) in
+    omega (arith, more, other, times_without m n e ts has)))
+  where
+    by : (b : Bool) → nat_le limit (suc n) ≡ b → ((e : Told) → Has (n, e) ts → limit ≤ suc n → suc n ≤ limit + late_count limit (without n ts)) → suc (suc n) ≤ limit + late_count limit ts
+    by false early before = omega (arith, leb-false limit (suc n) early)
+    by true is before =
+        let late : limit ≤ suc n = leb-true limit (suc n) is in
+        let found : (e : Told) × Has (n, e) ts = times_has n ts (each n late (omega arith)) in
+        omega (arith, before found.0 found.1 late, late-without limit n found.0 ts found.1 late)
+
 module _ (key : Settings) (n : ℕ) (values : List PartValue) (v : Known) (entries : List Entry) (same : kept_of entries ≡ told_by v.entries) (whole : IsWhole next_of CanFollow StandsFor key n values v) where
   stamps-same : stamps_of entries ≡ numbers_of v.entries
   stamps-same = stamps-kept entries ∙ ap (map (λ (k : Kept). k.0)) same ∙ sym (numbers-told v.entries)
@@ -231,8 +300,30 @@ module _ (key : Settings) (n : ℕ) (values : List PartValue) (v : Known) (entri
     out-kept : kept_of out ≡ stamped_from 0 whole.log
     out-kept = by-place 0 out whole.log out-length out-there
 
-    pub history-of : AreLimited (configuration_in key) → length entries ≤ 4294967294 → IsHistoryOf key v out
-    history-of limited few =
+    -- no more entries than the limit and the other passes
+    few-out : 1 ≤ key.events → late_count key.events v.entries ≤ v.passes → length out < key.events + v.passes
+    few-out some late =
+        let reach : suc n ≤ key.events + late_count key.events v.entries = late-reach key.events n v.entries some (λ m over less.
+        let one : below m n ≡ 1 = below_one m n less in omega (arith, one, whole.entries_all m)) in
+        omega (arith, reach, late, out-length, whole.length_is)
+
+    pub in-place : AreInPlace entries out
+    in-place = record {
+      there = λ e has.
+          let within : e.stamp < n = stamp-within e has in
+          let found : (x : Entry) × (slice_get out e.stamp ≡ Some x) = get-there out e.stamp (omega (arith, within, out-length, whole.length_is)) in
+          let is : (found.0.stamp ≡ e.stamp) × Has found.0 entries = out-right e.stamp found.0 found.1 in
+          found.1 ∙ ap Some (same-there e.stamp entries (omega (arith, times-same e.stamp, below_at_most e.stamp n)) found.0 e is.0 refl is.1 has);
+      all = λ m e at. out-right m e at;
+    }
+      where
+        out-right : (m : ℕ) (e : Entry) → slice_get out m ≡ Some e → (e.stamp ≡ m) × Has e entries
+        out-right m e at =
+            let within : m < n = omega (arith, get-within out m e at, out-length, whole.length_is) in
+            right m e (sym (take-there n m slots within) ∙ ap (λ (l : List (Option Entry)). slice_get l m) (sym collected) ∙ get-map Some m out e at)
+
+    pub history-of : AreLimited (configuration_in key) → length entries ≤ 4294967294 → late_count key.events v.entries ≤ v.passes → IsHistoryOf key v out
+    history-of limited few late =
         let short : length {A = Told} [] + length whole.log < 2 ^ 32 - 1 = omega (arith, few, no-more, whole.length_is) in
         let up : IsUp (configuration_in key) whole.log = up-follows key [] whole.log (up-none (configuration_in key) limited) whole.follows short in
         let events : map (λ (e : Entry). e.event) out ≡ map (λ (e : Told). e.event) whole.log = events-kept out ∙ ap (map (λ (k : Kept). k.1)) out-kept ∙ sym (events-stamped 0 whole.log) in
@@ -244,8 +335,11 @@ module _ (key : Settings) (n : ℕ) (values : List PartValue) (v : Known) (entri
           runs = ap (run (configuration_in key)) events ∙ runs-marks (configuration_in key) 0 (opening_world zeros) whole.log up.runs ∙ ap Ok (sym marks);
           receipts = λ m e has. (whole.entries_true m e has).1;
           notes = λ m hand has. let r = whole.notes_true m hand has in (omega (arith, r.0, whole.length_is), r.1);
+          not_possible = λ m hand asked reason has says. let r = whole.notes_true m hand has in
+              says.says (take m whole.log) (take-length m whole.log (omega (arith, r.0, whole.length_is))) (up-first (configuration_in key) m whole.log up) r.1;
+          few = few-out (omega (arith, limited.least_events)) late;
         }
 
-    pub remains-of : AreLimited (configuration_in key) → length entries ≤ 4294967294 → length values ≡ part_count (configuration_in key) → AreRemains key v out values
+    pub remains-of : AreLimited (configuration_in key) → length entries ≤ 4294967294 → late_count key.events v.entries ≤ v.passes → length values ≡ part_count (configuration_in key) → AreRemains key v out values
     unfolding history-of
-    remains-of limited few count = record { history = history-of limited few; all = none-left-out; count = count; stand = whole.values_stand }
+    remains-of limited few late count = record { history = history-of limited few late; all = none-left-out; count = count; stand = whole.values_stand }

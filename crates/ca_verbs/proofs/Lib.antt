@@ -2,6 +2,7 @@ pub mod ActedLemmas
 pub mod ReceiptLemmas
 pub mod StartLemmas
 pub mod TurnLemmas
+pub mod FewLemmas
 mod PlacingLemmas
 mod CloseLemmas
 mod LawfulLemmas

@@ -24,7 +24,7 @@ use Rattle.ca_adapter_opening.proofs.WorldLemmas.{opening-kind, opening-thing}
 use Rattle.ca_adapter_opening.specs.Opening.{FitContents, IsOpeningPart, buffers_before, contents_from, opening_bytes}
 use Rattle.ca_model_places.specs.Places.{place_of}
 use Rattle.ca_verbs_taking.proofs.PartLemmas.{bytes-with, value-with}
-use Rattle.ca_verbs.specs.Starting.{IsWithin}
+use Rattle.ca_adapter_opening.specs.Limits.{IsWithin}
 
 -- what stands among the first so many stands there
 taken : {A : Type 0} (n : ℕ) (xs : List A) (i : ℕ) (x : A) → i < n → slice_get xs i ≡ Some x → slice_get (take n xs) i ≡ Some x
@@ -115,4 +115,12 @@ stands-first key c contents row values same fit empty each are k x is up name pl
 
 -- all numbers are within their limits, the number of parts too
 pub limited-by : (c : Configuration) → IsWithin c → part_count c ≤ 4096 → AreLimited c
-limited-by c within few = record { count = within.count; adapters = within.adapters; bytes = within.bytes; parts = few; events = within.events }
+limited-by c within few = record {
+  least_count = within.least_count;
+  count = within.count;
+  adapters = within.adapters;
+  bytes = within.bytes;
+  parts = few;
+  least_events = within.least_events;
+  events = within.events;
+}

@@ -25,8 +25,8 @@ use Rattle.ca_model.specs.machine.Turns.{reaches_peer}
 use Rattle.ca_model.specs.machine.World.{World, Mailbox_of, Queue_of}
 use Rattle.ca_verbs_taking.proofs.NextLemmas.{also_none, holds_mailbox, holds_queue}
 use Rattle.ca_model_places.specs.Turns.{event_of, lot_at}
-use Rattle.ca_model_places.specs.declared.turn.Turn.{Turn}
-use Rattle.ca_model_places.specs.declared.turn.Turn.TheVariants as turns
+use Rattle.ca_base.specs.declared.step.Turn.{Turn}
+use Rattle.ca_base.specs.declared.step.Turn.TheVariants as turns
 use Rattle.std.specs.Option.{option_map}
 
 -- a queue pair or a mailbox that is not held is vacant in what is held

@@ -1,5 +1,5 @@
 -- What a fabric and a pass show, and what a receipt says. Contracts cite it.
-use Rattle.std.specs.Prelude.{◌≡◌, ◌≤◌, ◌+◌, List, Option, Some, length, slice_get}
+use Rattle.std.specs.Prelude.{◌≡◌, ◌≤◌, ◌+◌, List, [], ◌∷◌, ◌++◌, Option, Some, length, slice_get}
 use Rattle.std.specs.Option.{option_and_then}
 use Rattle.std.specs.Vec.{vec_capacity}
 use Rattle.ca_base.specs.declared.settings.Settings.{Settings}
@@ -32,11 +32,16 @@ known_of p = view_of p.parts
 abbrev pub IsOf : Fabric → Pass → Type 0
 IsOf f p = IsPassOf f.parts p.parts
 
+-- the entries that the pass keeps: of its own calls, and of those of passes that were joined into it
+abbrev pub entries_in : Pass → List Entry
+entries_in p = p.entries.items
+
 -- the entry of the latest call with this pass that answered a receipt
 abbrev pub latest_of : Pass → Option Entry
-latest_of p = option_and_then (slice_get p.entries.items) p.latest
+latest_of p = option_and_then (slice_get (entries_in p)) p.latest
 
--- a call was made: its entry, with the event and its marks, stands in the pass with the receipt's stamp, and is the latest
+-- A call was made: its entry, with the event, its marks, the receipt's stamp and the number of the pass, is the latest, and
+-- stands behind those that the pass kept before.
 pub record IsReceipt (key : Settings) (asked : Asked) (event : Event) (r : Receipt) (old new : Pass) : Type 0 where
   pub marks : List Mark
   pub made : IsMade key (told_of asked event marks) r.stamp (known_of old) (known_of new)
@@ -46,6 +51,7 @@ pub record IsReceipt (key : Settings) (asked : Asked) (event : Event) (r : Recei
   pub event_is : entry.event ≡ event
   pub marks_are : entry.marks.marks ≡ marks
   pub pass : entry.pass ≡ (known_of old).first
+  pub kept : entries_in new ≡ entries_in old ++ entry ∷ []
 
 -- a pass has room for a call
 pub record HasRoom (p : Pass) : Type 0 where
@@ -64,11 +70,13 @@ IsNoBusy e = Unit {0}
 pub record WasMade (key : Settings) (asked : Asked) (event : Event) (r : Receipt) (old new : Pass) : Type 0 where
   pub last : Pass
   pub same : SameRecord (known_of old) (known_of last)
+  pub kept : entries_in last ≡ entries_in old
   pub made : IsReceipt key asked event r last new
 
 -- The same of one that was refused: its last answer is not Busy, and has its cause.
 pub record WasRefused (key : Settings) (asked : Asked) (e : TryError) (old new : Pass) : Type 0 where
   pub last : Pass
   pub same : SameRecord (known_of old) (known_of last)
+  pub kept : entries_in new ≡ entries_in old
   pub not_busy : IsNoBusy e
   pub cause : WasNotMade key asked e (known_of last) (known_of new)

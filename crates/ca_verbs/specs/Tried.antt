@@ -4,11 +4,11 @@ use Rattle.ca_base.specs.Configuration.{Configuration, configuration_in}
 use Rattle.ca_base.specs.declared.settings.Settings.{Settings}
 use Rattle.ca_base.specs.declared.step.Reason.{Reason}
 use Rattle.ca_base.specs.declared.step.Reason.TheVariants as reasons
-use Rattle.ca_base.specs.declared.step.StepError.{StepError}
-use Rattle.ca_base.specs.declared.step.StepError.TheVariants as steps
+use Rattle.ca_base.specs.declared.step.ActError.{ActError}
+use Rattle.ca_base.specs.declared.step.ActError.TheVariants as steps
 use Rattle.ca_verbs_machine.specs.After.{IsUp, world_after}
 use Rattle.ca_verbs_machine.specs.Asks.{event_asked}
-use Rattle.ca_verbs_machine.specs.Meanings.{CanFollow, StandsFor}
+use Rattle.ca_verbs_machine.specs.Meanings.{CanFollow, StandsFor, next_of}
 use Rattle.ca_verbs_machine.specs.Values.{PartValue}
 use Rattle.ca_verbs_machine.specs.declared.asked.Asked.{Asked}
 use Rattle.ca_verbs_machine.specs.declared.asked.Told.{Told}
@@ -17,10 +17,10 @@ use Rattle.ca_model.specs.declared.mark.Mark.{Mark}
 use Rattle.ca_model.specs.machine.Plan.{NotReady}
 use Rattle.ca_model.specs.machine.Step.{step}
 use Rattle.ca_model.specs.machine.World.{World}
-use Rattle.ca_parts.specs.Hands.{AllStand}
+use Rattle.ca_parts.specs.Hands.{AllStand, Suffices}
 use Rattle.ca_parts.specs.Lists.{EachFollows, Has}
 use Rattle.ca_verbs_taking.specs.Holding.{Known}
-use Rattle.ca_verbs_taking.specs.Taking.{HasLooked, WasBusy, WasFull}
+use Rattle.ca_verbs_taking.specs.Taking.{HasLooked, IsSeen, WasBusy, WasFull}
 use Rattle.ca_verbs_taking.specs.declared.take_error.TakeError.{TakeError}
 use Rattle.ca_verbs_taking.specs.declared.take_error.TakeError.TheVariants as takes
 use Rattle.ca_verbs.specs.declared.try_error.TryError.{TryError}
@@ -37,7 +37,8 @@ IsEventOf key asked event hand =
     → event_asked (world_after (configuration_in key) log) asked ≡ Some event
 
 -- An entry was made: it stands in the pass with its stamp, which is the number of the entries before it, and may follow
--- them. The stamp is above those of the pass before, and not below what it read.
+-- them. The stamp is above those of the pass before, and not below what it read. With all in hand that was needed, a look
+-- of this call read less than the limit of events.
 pub record IsMade (key : Settings) (e : Told) (stamp : ℕ) (old new : Known) : Type 0 where
   pub added : new.entries ≡ old.entries ++ (stamp, e) ∷ []
   pub log : List Told
@@ -46,7 +47,14 @@ pub record IsMade (key : Settings) (e : Told) (stamp : ℕ) (old new : Known) : 
   pub step : CanFollow key log e
   pub later : (m : ℕ) (x : Told) → Has (m, x) old.entries → m < stamp
   pub read : (m : ℕ) (hand : List (ℕ × PartValue)) → Has (m, hand) old.notes → m ≤ stamp
+  pub looked : ℕ
+  pub hand : List (ℕ × PartValue)
+  pub needed : Suffices next_of key e.asked hand
+  pub noted : HasLooked looked hand old new
+  pub under : looked < key.events
+  pub before : looked ≤ stamp
   pub share : new.share ≡ old.share
+  pub passes : new.passes ≡ old.passes
   pub refused : new.refused ≡ old.refused
 
 -- what is asked for is not possible in a world, for this reason: the event that it is there; or it is none, since nothing is due
@@ -54,16 +62,22 @@ abbrev pub IsNotPossible : Configuration → World → Option Event → Reason �
 IsNotPossible c w None reason = reason ≡ reasons.Empty
 IsNotPossible c w (Some event) reason = step c w event ≡ NotReady reason
 
--- After the first n entries, which are a list of the machine, what was asked for was not possible, for this reason; n was
--- read by a look of this call.
+-- The parts in a hand say of what is asked for that it is not possible, for this reason: they are all that it needs, and
+-- after every list of n entries of the machine for which they stand it is not.
+pub record SaysNotPossible (key : Settings) (asked : Asked) (n : ℕ) (reason : Reason) (hand : List (ℕ × PartValue)) : Type 0 where
+  pub needed : Suffices next_of key asked hand
+  pub says : (log : List Told) → length log ≡ n → IsUp (configuration_in key) log → AllStand (StandsFor key log) hand
+      → IsNotPossible (configuration_in key) (world_after (configuration_in key) log) (event_asked (world_after (configuration_in key) log) asked) reason
+
+-- After the first n entries what was asked for was not possible, for this reason. A look of this call read n, which is below
+-- the limit of events, and noted the parts that say so. They stood so after n entries; what closes the fabric says that they
+-- stood so after the first n of its history, as all that is noted.
 pub record WasNotReady (key : Settings) (asked : Asked) (n : ℕ) (reason : Reason) (old new : Known) : Type 0 where
   pub under : n < key.events
   pub hand : List (ℕ × PartValue)
   pub noted : HasLooked n hand old new
-  pub log : List Told
-  pub length_is : length log ≡ n
-  pub up : IsUp (configuration_in key) log
-  pub says : IsNotPossible (configuration_in key) (world_after (configuration_in key) log) (event_asked (world_after (configuration_in key) log) asked) reason
+  pub not_possible : SaysNotPossible key asked n reason hand
+  pub seen : IsSeen key n hand
   pub refused : new.refused ≡ old.refused
 
 -- why no entry was made; of want of memory nothing more is said
@@ -74,7 +88,7 @@ WasNotMade key asked (errors.NotReady n reason) old new = WasNotReady key asked 
 WasNotMade key asked errors.Memory old new = new.refused ≡ old.refused
 
 -- what is answered where an event is not made that the clock n was read for
-abbrev pub refusal_of : ℕ → StepError → TryError
+abbrev pub refusal_of : ℕ → ActError → TryError
 refusal_of n (steps.NotReady reason) = errors.NotReady n reason
 refusal_of n steps.Memory = errors.Memory
 

@@ -12,7 +12,7 @@ ghost use Rattle.ca_verbs.specs.Tried.{IsEventOf, IsMade, WasNotMade, refusal_of
 use crate::marking::mark;
 use crate::try_error::TryError;
 use ca_adapter_parts::Held;
-use ca_base::StepError;
+use ca_base::ActError;
 use ca_model::{Event, Marks, PartName};
 use ca_parts::{PartPass, Parts};
 use ca_verbs_machine::SharedPart;
@@ -74,11 +74,11 @@ pub(crate) fn act_in_hand(
 }
 
 /// Why an event was not made that the clock n was read for.
-fn refusal(n: u64, error: StepError) -> TryError
+fn refusal(n: u64, error: ActError) -> TryError
     ensures { result ≡ refusal_of n error }
 {
     match error {
-        StepError::NotReady(reason) => TryError::NotReady(n, reason),
-        StepError::Memory => TryError::Memory,
+        ActError::NotReady(reason) => TryError::NotReady(n, reason),
+        ActError::Memory => TryError::Memory,
     }
 }

@@ -1,8 +1,8 @@
 ghost use Rattle.std.specs.Prelude.{◌<◌, IfErr, IfOk};
 ghost use Rattle.ca_base.specs.declared.limits.TheConstants.{MAX_PASSES};
 ghost use Rattle.ca_verbs.specs.Closed.{IsCauseOf, IsPassOut};
-ghost use Rattle.ca_verbs.specs.Closing.{AreRemains, IsHistoryOf, IsLawful};
-ghost use Rattle.ca_verbs.specs.Passes.{IsOf, known_of, settings_in};
+ghost use Rattle.ca_verbs.specs.Closing.{AreInPlace, AreRemains, IsHistoryOf, IsLawful};
+ghost use Rattle.ca_verbs.specs.Passes.{IsOf, entries_in, known_of, settings_in};
 
 use crate::close_error::CloseError;
 use crate::fabric::Fabric;
@@ -25,13 +25,15 @@ pub struct Remains {
 }
 
 impl Fabric {
-    /// Ends the fabric: the entries of all passes in the order of their stamps, from 0 on. `PassOut` comes exactly where the
+    /// Ends the fabric: the entries of all passes in the order of their stamps, from 0 on, each with the number of the pass
+    /// that made it. `History::of` makes a history of them, and takes no memory for it. `PassOut` comes exactly where the
     /// share of the pass is below 2^32; `Memory` is the other refusal. Either gives both back as they were.
     pub fn close(self, pass: Pass) -> Result<Vec<Entry>, CloseError>
         requires of { IsOf self pass }
         ensures out { (known_of pass).share < MAX_PASSES → IsPassOut result }
         ensures cause { IfErr result (λ e. IsCauseOf self pass e) }
         ensures history { IfOk result (λ j. IsHistoryOf (settings_in self) (known_of pass) j.items) }
+        ensures entries { IfOk result (λ j. AreInPlace (entries_in pass) j.items) }
         ensures lawful { IfOk result (λ j. IsLawful (settings_in self) j.items) }
     {
         let Remains { entries, parts: _ } = self.into_parts(pass)?;
@@ -45,6 +47,7 @@ impl Fabric {
         ensures cause { IfErr result (λ e. IsCauseOf self pass e) }
         ensures remains { IfOk result (λ left. AreRemains (settings_in self) (known_of pass) left.entries.items
             left.parts.items) }
+        ensures entries { IfOk result (λ left. AreInPlace (entries_in pass) left.entries.items) }
         ensures lawful { IfOk result (λ left. IsLawful (settings_in self) left.entries.items) }
     {
         if pass.parts.share() != MAX_PASSES {

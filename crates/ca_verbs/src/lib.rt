@@ -13,7 +13,6 @@ mod close_error;
 mod closing;
 mod fabric;
 mod joining;
-mod limits;
 mod marking;
 mod pass;
 mod passes;
@@ -26,6 +25,7 @@ mod turning;
 mod verbs;
 mod waiting;
 
+pub use ca_base::Turn;
 pub use close_error::CloseError;
 pub use closing::Remains;
 pub use fabric::Fabric;

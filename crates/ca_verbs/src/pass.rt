@@ -2,7 +2,7 @@ ghost use Rattle.std.specs.Prelude.{◌≡◌, ◌<◌, ℕ, [], Some, length};
 ghost use Rattle.ca_adapter_parts.specs.HeldView.{holding};
 ghost use Rattle.ca_parts.specs.Rows.{view_of};
 ghost use Rattle.ca_verbs_taking.specs.Hands.{IsEmpty};
-ghost use Rattle.ca_verbs.specs.Kept.{kept_of, told_by};
+ghost use Rattle.ca_verbs.specs.Kept.{AreFew, few_prop, kept_of, told_by};
 
 use ca_adapter_parts::Held;
 use ca_model::{Entry, PartName};
@@ -25,6 +25,7 @@ pub struct Pass {
     ghost empty: { IsEmpty (holding held) },
     ghost none: { out.items ≡ [] },
     ghost kept: { kept_of entries.items ≡ told_by (view_of parts).entries },
+    ghost few: { AreFew (view_of parts) } by { few_prop (view_of parts) },
     ghost within: { (i : ℕ) → latest ≡ Some i → i < length entries.items },
 }
 

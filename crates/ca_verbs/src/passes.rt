@@ -1,6 +1,6 @@
-ghost use Rattle.std.specs.Prelude.{◌≡◌, ◌↔◌, ◌<◌, IfOk, IsErr, None, OnErr, option_copied};
+ghost use Rattle.std.specs.Prelude.{◌≡◌, ◌↔◌, ◌<◌, [], IfOk, IsErr, None, OnErr, option_copied};
 ghost use Rattle.ca_parts.specs.Views.{lower_half, upper_half, with_look};
-ghost use Rattle.ca_verbs.specs.Passes.{IsOf, known_of, latest_of, settings_in};
+ghost use Rattle.ca_verbs.specs.Passes.{IsOf, entries_in, known_of, latest_of, settings_in};
 ghost use Rattle.ca_verbs_machine.specs.Meanings.{CanFollow, StandsFor, next_of};
 ghost use Rattle.ca_parts.specs.Calls.{Sees};
 
@@ -30,6 +30,7 @@ impl Fabric {
         ensures noted { known_of pass.new ≡ with_look result (known_of pass.old) }
         ensures sees { Sees next_of CanFollow StandsFor (settings_in self.now) result (known_of pass.old) }
         ensures latest { latest_of pass.new ≡ latest_of pass.old }
+        ensures entries { entries_in pass.new ≡ entries_in pass.old }
     {
         self.parts.look(&mut pass.parts)
     }
@@ -42,9 +43,10 @@ impl Fabric {
         ensures spent { IsErr result ↔ ((known_of pass.old).count ≡ 1) }
         ensures lower { IfOk result (λ p. known_of pass.new ≡ lower_half (known_of pass.old)) }
         ensures upper { IfOk result (λ p. IsOf self.now p × (known_of p ≡ upper_half (known_of pass.old))
-            × (latest_of p ≡ None)) }
+            × (latest_of p ≡ None) × (entries_in p ≡ [])) }
         ensures same { OnErr result (known_of pass.new ≡ known_of pass.old) }
         ensures latest { latest_of pass.new ≡ latest_of pass.old }
+        ensures entries { entries_in pass.new ≡ entries_in pass.old }
     {
         let parts = self.parts.split(&mut pass.parts)?;
         Ok(Pass {

@@ -7,10 +7,9 @@ ghost use Rattle.ca_verbs_taking.specs.Hands.{IsMailboxIn, IsQueueIn};
 ghost use Rattle.ca_model_places.specs.Turns as turns;
 
 use ca_adapter_parts::{Held, QueueSlot};
-use ca_base::{Lot, QueueId};
+use ca_base::{Lot, QueueId, Turn};
 use ca_mailbox::{Mailbox, Weather};
 use ca_model::{Event, PartName};
-use ca_model_places::Turn;
 use ca_qpstate::QueuePart;
 
 /// The event that a turn is by what is held, under a weather; none where nothing is due.

@@ -3,17 +3,16 @@ ghost use Rattle.ca_verbs_machine.specs.declared.asked.Asked.TheVariants as asks
 ghost use Rattle.ca_model.specs.declared.event.Event as model;
 ghost use Rattle.ca_model.specs.declared.event.Event.TheVariants as events;
 ghost use Rattle.ca_verbs_taking.specs.Taking.{SameRecord};
-ghost use Rattle.ca_verbs.specs.Passes.{HasRoom, IsOf, IsReceipt, known_of, latest_of, settings_in};
+ghost use Rattle.ca_verbs.specs.Passes.{HasRoom, IsOf, IsReceipt, entries_in, known_of, latest_of, settings_in};
 ghost use Rattle.ca_verbs.specs.Tried.{WasNotMade};
 
 use crate::fabric::Fabric;
 use crate::pass::{Pass, Receipt};
 use crate::try_error::TryError;
 use crate::trying::{try_event, try_turn_event};
-use ca_base::Memory;
+use ca_base::{Memory, Turn};
 use ca_mailbox::Weather;
 use ca_model::{Entry, Event, Verb};
-use ca_model_places::Turn;
 use ca_verbs_taking::{Ask, MAX_ASKED_PARTS};
 
 impl Pass {
@@ -47,7 +46,7 @@ impl Fabric {
         ensures not_made { IfErr result (λ e. WasNotMade (settings_in self.now) (asks.Event (events.Verb by v.now)) e
             (known_of pass.old) (known_of pass.new)) }
         ensures same { OnErr result (SameRecord (known_of pass.old) (known_of pass.new)
-            × (latest_of pass.new ≡ latest_of pass.old)) }
+            × (latest_of pass.new ≡ latest_of pass.old) × (entries_in pass.new ≡ entries_in pass.old)) }
     {
         let number = pass.parts.number();
         let Ok(verb) = v.clone() else {
@@ -89,7 +88,7 @@ impl Fabric {
         ensures not_made { IfErr result (λ e. WasNotMade (settings_in self.now) (asks.Turn turn w.now) e
             (known_of pass.old) (known_of pass.new)) }
         ensures same { OnErr result (SameRecord (known_of pass.old) (known_of pass.new)
-            × (latest_of pass.new ≡ latest_of pass.old)) }
+            × (latest_of pass.new ≡ latest_of pass.old) × (entries_in pass.new ≡ entries_in pass.old)) }
     {
         let number = pass.parts.number();
         if pass.make_room().is_err() {

@@ -7,9 +7,9 @@ ghost use Rattle.ca_verbs.specs.Passes.{IsOf, WasMade, WasRefused, settings_in};
 use crate::fabric::Fabric;
 use crate::pass::{Pass, Receipt};
 use crate::try_error::TryError;
+use ca_base::Turn;
 use ca_mailbox::Weather;
 use ca_model::Verb;
-use ca_model_places::Turn;
 use std::sync::Wait;
 
 impl Fabric {

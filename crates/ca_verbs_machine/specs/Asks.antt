@@ -15,8 +15,8 @@ use Rattle.ca_model.specs.declared.part_name.PartName.TheVariants as names
 use Rattle.ca_model.specs.machine.Parts.{Needs, By, Enough, also, event_needs, part, turn_needs, where_some}
 use Rattle.ca_model.specs.machine.World.{World, Mailbox_of}
 use Rattle.ca_model_places.specs.Turns.{event_of}
-use Rattle.ca_model_places.specs.declared.turn.Turn.{Turn}
-use Rattle.ca_model_places.specs.declared.turn.Turn.TheVariants as turns
+use Rattle.ca_base.specs.declared.step.Turn.{Turn}
+use Rattle.ca_base.specs.declared.step.Turn.TheVariants as turns
 
 -- the event that is asked for, in a world; none where nothing is due
 abbrev pub event_asked : World → Asked → Option Event

@@ -32,8 +32,8 @@ use Rattle.ca_model_places.proofs.AmongLemmas.{all-among}
 use Rattle.ca_model_places.proofs.NumberLemmas.{all-numbered}
 use Rattle.ca_model_places.specs.Places.{all_parts, place_of}
 use Rattle.ca_model_places.specs.Turns.{event_of, hasten_at, lot_at}
-use Rattle.ca_model_places.specs.declared.turn.Turn.{Turn}
-use Rattle.ca_model_places.specs.declared.turn.Turn.TheVariants as turns
+use Rattle.ca_base.specs.declared.step.Turn.{Turn}
+use Rattle.ca_base.specs.declared.step.Turn.TheVariants as turns
 
 -- what is numbered has a number
 numbered : (f : PartName → Option ℕ) (p : PartName) (xs : List PartName) (ns : List ℕ) → map f xs ≡ map Some ns → IsAmong xs p → is_some (f p) ≡ true

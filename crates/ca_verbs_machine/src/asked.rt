@@ -1,6 +1,6 @@
+use ca_base::Turn;
 use ca_mailbox::Weather;
 use ca_model::{Event, Mark};
-use ca_model_places::Turn;
 use std::collections::LinkedList;
 
 /// What is asked for: an event as it is, or a turn under a weather. No value of it is made; it is what contracts say that

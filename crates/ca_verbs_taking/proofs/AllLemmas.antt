@@ -1,5 +1,5 @@
 -- Parts taken one after another: how it begins, how it goes on, and how it ends. For proofs only.
-use Rattle.std.proofs.Common.{◌≡◌, ◌∙◌, sym, ap, subst, ℕ, ◌<◌, ◌≤◌, arith, inl, List, [], ◌∷◌, ◌++◌, length, None, Vec}
+use Rattle.std.proofs.Common.{◌≡◌, ◌∙◌, sym, ap, subst, ℕ, ◌<◌, ◌≤◌, ⊎_elim, append_assoc, arith, inl, List, [], ◌∷◌, ◌++◌, length, None, Vec}
 use Rattle.std.specs.Option.{option_and_then}
 use Rattle.std.specs.Vec.{vec_capacity}
 use Rattle.std.specs.declared.alloc.Global.{Global}
@@ -18,6 +18,7 @@ use Rattle.ca_model.specs.declared.part_name.PartName.{PartName}
 use Rattle.ca_model.specs.machine.Parts.{listed, next_part}
 use Rattle.ca_model.specs.machine.Sound.{AreLimited}
 use Rattle.ca_model.specs.machine.World.{World}
+use Rattle.ca_parts.proofs.Lists.{has_either, has_last}
 use Rattle.ca_parts.specs.Calls.{Sees}
 use Rattle.ca_parts.specs.Hands.{IsTakenFor}
 use Rattle.ca_parts.specs.Views.{with_look}
@@ -79,7 +80,7 @@ module _ (key : Settings) (asked : Asked) (n : ℕ) (old v : Known) (h : Held) (
     number = ap length none;
     noted = noted-first;
     refused = ap (λ (u : Known). u.refused) looks;
-    same = (ap (λ (u : Known). u.share) looks, ap (λ (u : Known). u.entries) looks);
+    same = ((ap (λ (u : Known). u.share) looks, ap (λ (u : Known). u.passes) looks), ap (λ (u : Known). u.entries) looks);
   }
 
 -- one part more
@@ -90,7 +91,7 @@ going-on key asked m n count more_count old v new h k names more is amid took sa
   number = number;
   noted = looked-on m n v.hand new.hand old v new is.noted is.same took.noted;
   refused = took.refused ∙ is.refused;
-  same = (same.0 ∙ is.same.0, same.1 ∙ is.same.1);
+  same = ((same.0.0 ∙ is.same.0.0, same.0.1 ∙ is.same.0.1), same.1 ∙ is.same.1);
 }
 
 -- it stopped
@@ -103,8 +104,15 @@ stopped-on key asked m count old v new h names (errors.Busy name) is was = recor
   taken = was.taken;
   needed = was.needed;
   was = was.was;
-  not_alone = λ all. was.not_alone (is.same.0 ∙ all);
+  not_alone = λ all. was.not_alone (is.same.0.0 ∙ all);
   refused = was.refused ∙ ap (λ rs. rs ++ was.place ∷ []) is.refused;
+  looks = (is.noted.between ++ (m, v.hand) ∷ []) ++ was.looks;
+  noted = was.noted ∙ ap (λ ns. ns ++ was.looks) is.noted.noted ∙ append_assoc old.notes (is.noted.between ++ (m, v.hand) ∷ []) was.looks;
+  under = λ k g has. ⊎_elim
+      (λ first. ⊎_elim (λ before. let low : k ≤ m = is.noted.before k g before in omega (arith, low, is.amid.under))
+      (λ last. let same : k ≡ m = ap (λ (x : ℕ × List (ℕ × PartValue)). x.0) last in omega (arith, same, is.amid.under))
+      (has_last (k, g) (m, v.hand) is.noted.between first))
+      (was.under k g) (has_either (k, g) (is.noted.between ++ (m, v.hand) ∷ []) was.looks has);
 }
 stopped-on key asked m count old v new h names (errors.Full n) is was = record {
   over = was.over;

@@ -1,5 +1,5 @@
 -- What a look shows of the parts in hand. For proofs only.
-use Rattle.std.proofs.Common.{◌≡◌, ◌∙◌, refl, sym, ap, subst, ℕ, ◌<◌, arith, true, List, [], ◌∷◌, ◌++◌, length, Some, append_assoc}
+use Rattle.std.proofs.Common.{◌≡◌, ◌∙◌, refl, sym, ap, subst, ℕ, ◌<◌, ◌≤◌, inl, ⊎_elim, arith, true, List, [], ◌∷◌, ◌++◌, length, Some, append_assoc}
 use Rattle.std.specs.Option.{option_map_or}
 use Rattle.ca_adapter.specs.Ready.{ArePartsOfWorld}
 use Rattle.ca_base.specs.Configuration.{configuration_in}
@@ -19,7 +19,7 @@ use Rattle.ca_model.specs.declared.part_name.PartName.TheVariants as kinds
 use Rattle.ca_model.specs.machine.Parts.{ShowsHeld, part_of}
 use Rattle.ca_model.specs.machine.Sound.{AreLimited}
 use Rattle.ca_model.specs.machine.World.{Byte_at, get}
-use Rattle.ca_parts.proofs.Lists.{has_left}
+use Rattle.ca_parts.proofs.Lists.{has_either, has_left, has_right}
 use Rattle.ca_parts.specs.Calls.{Sees}
 use Rattle.ca_parts.specs.Lists.{Has}
 use Rattle.ca_model_places.specs.Places.{place_of}
@@ -47,6 +47,7 @@ looked-of key n old new sees noted = record {
   noted = noted;
   later = λ m e has. (sees.entries_true m e has).0;
   read = λ m h has. (sees.notes_true m h has).0;
+  before = λ m h has. absurd has;
 }
 
 -- one look after another
@@ -59,7 +60,13 @@ looked-on m n g h old mid new one same other = record {
       ∙ sym (append_assoc one.between ((m, g) ∷ other.between) ((n, h) ∷ [])));
   later = λ k e has. other.later k e (subst (λ es. Has (k, e) es) (sym same.1) has);
   read = λ k f has. other.read k f (subst (λ ns. Has (k, f) ns) (sym one.noted) (has_left (k, f) old.notes (one.between ++ (m, g) ∷ []) has));
+  before = λ k f has. ⊎_elim (λ first. let low : k ≤ m = one.before k f first in omega (arith, low, middle))
+      (λ then. ⊎_elim (λ is. let here : k ≡ m = ap (λ (x : ℕ × List (ℕ × PartValue)). x.0) is in omega (arith, here, middle)) (other.before k f) then)
+      (has_either (k, f) one.between ((m, g) ∷ other.between) has);
 }
+  where
+    middle : m ≤ n
+    middle = other.read m g (subst (λ ns. Has (m, g) ns) (sym one.noted) (has_right (m, g) old.notes (one.between ++ (m, g) ∷ []) (has_right (m, g) one.between ((m, g) ∷ []) (inl refl))))
 
 -- the parts in hand are those of the world that was seen
 module _ (key : Settings) (n : ℕ) (h : Held) (names : List PartName) (hand : List (ℕ × PartValue)) (seen : IsSeen key n hand) (holds : IsHolding (configuration_in key) (holding h) names hand) where

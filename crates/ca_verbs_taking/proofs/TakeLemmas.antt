@@ -1,5 +1,5 @@
 -- The part that is needed next is taken: what it is before, and what it makes of a pass amid taking. For proofs only.
-use Rattle.std.proofs.Common.{◌≡◌, ◌≢◌, ◌∙◌, refl, sym, ap, subst, ℕ, ◌+◌, ◌<◌, ◌≤◌, arith, inr, Bool, true, false, [], ◌∷◌, ◌++◌, length, Option, Some, is_some, if◌then◌else◌, true≢false, Vec}
+use Rattle.std.proofs.Common.{◌≡◌, ◌≢◌, ◌∙◌, append-nil, refl, sym, ap, subst, ℕ, ◌+◌, ◌<◌, ◌≤◌, arith, inr, Bool, true, false, [], ◌∷◌, ◌++◌, length, Option, Some, is_some, if◌then◌else◌, true≢false, Vec}
 use Rattle.std.proofs.lemmas.List.{length-append}
 use Rattle.std.specs.Option.{option_and_then}
 use Rattle.std.specs.Vec.{vec_capacity}
@@ -93,6 +93,9 @@ module _ (key : Settings) (asked : Asked) (n : ℕ) (v : Known) (h : Held) (name
       was = was;
       not_alone = other;
       refused = ap (λ (u : Known). u.refused) is;
+      looks = [];
+      noted = ap (λ (u : Known). u.notes) is ∙ sym (append-nil v.notes);
+      under = λ k g has. absurd has;
     }
 
     module _ (part m : ℕ) (value : PartValue) (mid new : Known) (same : part ≡ place) (took : mid ≡ with_part asked place value v) (looks : new ≡ with_look m mid)
@@ -112,6 +115,7 @@ module _ (key : Settings) (asked : Asked) (n : ℕ) (v : Known) (h : Held) (name
         noted = ap (λ (u : Known). u.notes) looked-new;
         later = λ k e has. (sees-taken.entries_true k e has).0;
         read = λ k g has. (sees-taken.notes_true k g has).0;
+        before = λ k g has. absurd has;
       }
 
       pub has-taken : Has (part, value) new.hand
@@ -133,6 +137,7 @@ module _ (key : Settings) (asked : Asked) (n : ℕ) (v : Known) (h : Held) (name
           noted = ap (λ (u : Known). u.notes) is ∙ noted-new.noted;
           later = noted-new.later;
           read = noted-new.read;
+          before = noted-new.before;
         };
         refused = ap (λ (u : Known). u.refused) is ∙ ap (λ (u : Known). u.refused) looked-new;
       }

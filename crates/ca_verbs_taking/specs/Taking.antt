@@ -17,9 +17,9 @@ use Rattle.ca_verbs_taking.specs.Holding.{Known}
 use Rattle.ca_verbs_taking.specs.declared.take_error.TakeError.{TakeError}
 use Rattle.ca_verbs_taking.specs.declared.take_error.TakeError.TheVariants as errors
 
--- the share and the entries of a pass are as they were
+-- the share of a pass, the passes that it is made of, and its entries are as they were
 abbrev pub SameRecord : Known → Known → Type 0
-SameRecord old new = (new.share ≡ old.share) × (new.entries ≡ old.entries)
+SameRecord old new = ((new.share ≡ old.share) × (new.passes ≡ old.passes)) × (new.entries ≡ old.entries)
 
 -- after the first n entries, which are a list of the machine, the parts in a hand stood for their values
 pub record IsSeen (key : Settings) (n : ℕ) (hand : List (ℕ × PartValue)) : Type 0 where
@@ -28,12 +28,14 @@ pub record IsSeen (key : Settings) (n : ℕ) (hand : List (ℕ × PartValue)) : 
   pub up : IsUp (configuration_in key) log
   pub stand : AllStand (StandsFor key log) hand
 
--- a look read n, with the parts that are in hand then: it is above the stamps of the pass, and not below what it read before
+-- a look read n, with the parts that are in hand then: it is above the stamps of the pass, and not below what it read
+-- before this call and in it
 pub record HasLooked (n : ℕ) (hand : List (ℕ × PartValue)) (old new : Known) : Type 0 where
   pub between : List (ℕ × List (ℕ × PartValue))
   pub noted : new.notes ≡ old.notes ++ (between ++ (n, hand) ∷ [])
   pub later : (m : ℕ) (e : Told) → Has (m, e) old.entries → m < n
   pub read : (m : ℕ) (h : List (ℕ × PartValue)) → Has (m, h) old.notes → m ≤ n
+  pub before : (m : ℕ) (h : List (ℕ × PartValue)) → Has (m, h) between → m ≤ n
 
 -- All parts are in hand that are needed for what is asked: each is the one that was needed next after those before it. The
 -- clock was read as n with them in hand, and is below the limit of events.
@@ -47,7 +49,8 @@ pub record TookAll (key : Settings) (asked : Asked) (n : ℕ) (old new : Known) 
   pub noted : HasLooked n new.hand old new
   pub refused : new.refused ≡ old.refused
 
--- the part at place k, which is needed next after those in hand, was taken by another pass at a moment of this call
+-- The part at place k, which is needed next after those in hand, was taken by another pass at a moment of this call. What
+-- this call read of the clock is below the limit of events.
 pub record WasBusy (key : Settings) (asked : Asked) (name : PartName) (old new : Known) : Type 0 where
   pub place : ℕ
   pub place_is : place_of (configuration_in key) name ≡ Some place
@@ -57,6 +60,9 @@ pub record WasBusy (key : Settings) (asked : Asked) (name : PartName) (old new :
   pub was : WasTaken next_of CanFollow StandsFor key place at
   pub not_alone : old.share ≢ MAX_PASSES
   pub refused : new.refused ≡ old.refused ++ place ∷ []
+  pub looks : List (ℕ × List (ℕ × PartValue))
+  pub noted : new.notes ≡ old.notes ++ looks
+  pub under : (m : ℕ) (h : List (ℕ × PartValue)) → Has (m, h) looks → m < key.events
 
 -- the clock was read as n, with the parts that were in hand then, and is not below the limit of events
 pub record WasFull (key : Settings) (n : ℕ) (old new : Known) : Type 0 where

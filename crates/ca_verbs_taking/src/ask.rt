@@ -1,6 +1,6 @@
+use ca_base::Turn;
 use ca_mailbox::Weather;
 use ca_model::Event;
-use ca_model_places::Turn;
 
 /// What is asked for: an event as it is, or a turn under a weather.
 #[derive(Clone, Copy)]

@@ -10,14 +10,13 @@ ghost use Rattle.ca_model.specs.machine.Invariants.{IsSharedReceives};
 ghost use Rattle.ca_model.specs.machine.Parts as machine;
 ghost use Rattle.ca_model.specs.machine.Sound.{AreLimited};
 ghost use Rattle.ca_verbs_taking.specs.Asking.{asked_of};
-ghost use Rattle.ca_model_places.specs.declared.turn.Turn.TheVariants as turns;
+ghost use Rattle.ca_base.specs.declared.step.Turn.TheVariants as turns;
 
 use crate::ask::Ask;
 use ca_adapter::next_part;
 use ca_adapter_parts::{Held, QueueSlot};
-use ca_base::{Lot, QueueId, Settings};
+use ca_base::{Lot, QueueId, Settings, Turn};
 use ca_model::{Event, PartName};
-use ca_model_places::Turn;
 
 /// The next part that is needed for what is asked, beside those in hand. A turn also needs what tells which event it is: the
 /// mailbox from which something is due, and the peer's mailbox, for the lot of what is sent.

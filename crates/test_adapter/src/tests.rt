@@ -8,7 +8,7 @@ mod turns;
 
 use ca_adapter_opening::{fit_contents, is_limited};
 use ca_adapter_store::Row;
-use ca_base::{Bytes, Config, DomainId, Lot, Memory, QueueId, Reason, Slot, StepError};
+use ca_base::{ActError, Bytes, Config, DomainId, Lot, Memory, QueueId, Reason, Slot};
 use ca_model::{Contents, Entry, Event, Marks, Opening, Verb};
 use ca_script::read_script;
 use ca_trace::print;
@@ -41,17 +41,17 @@ fn text_of(alloc: Global, entry: &Entry) -> Vec<u8> {
 const MOST_ENTRIES: u32 = 1000;
 
 /// Makes an event. Where it wants memory it is made again, which shows that the parts stayed as they were.
-fn made(alloc: Global, row: &mut Row, event: &Event) -> Result<Marks, StepError>
+fn made(alloc: Global, row: &mut Row, event: &Event) -> Result<Marks, ActError>
     requires { IsRow row.old }
     ensures { IsRow row.new }
 {
     if row.count >= MOST_ENTRIES {
-        return Err(StepError::Memory);
+        return Err(ActError::Memory);
     }
     match row.make(alloc, event) {
         Ok(marks) => Ok(marks),
-        Err(StepError::Memory) => row.make(alloc, event),
-        Err(StepError::NotReady(reason)) => Err(StepError::NotReady(reason)),
+        Err(ActError::Memory) => row.make(alloc, event),
+        Err(ActError::NotReady(reason)) => Err(ActError::NotReady(reason)),
     }
 }
 
@@ -148,7 +148,7 @@ fn waits_for(rt: &impl Abort, alloc: Global, row: &mut Row, least: u8)
         verb: Verb::Poll { slot, n: 16, least },
     };
     let outcome = made(alloc, row, &event);
-    let waits = matches!(outcome, Err(StepError::NotReady(Reason::Empty)));
+    let waits = matches!(outcome, Err(ActError::NotReady(Reason::Empty)));
     assert!(rt; waits, "a poll for at least {least} completions");
 }
 
@@ -159,9 +159,9 @@ fn is_refused(rt: &impl Abort, alloc: Global, row: &mut Row, turn: &Event, state
 {
     let outcome = made(alloc, row, turn);
     let as_told = if state {
-        matches!(outcome, Err(StepError::NotReady(Reason::State)))
+        matches!(outcome, Err(ActError::NotReady(Reason::State)))
     } else {
-        matches!(outcome, Err(StepError::NotReady(Reason::Empty)))
+        matches!(outcome, Err(ActError::NotReady(Reason::Empty)))
     };
     assert!(rt; as_told, "a turn");
 }

@@ -1,10 +1,9 @@
 ghost use Rattle.ca_verbs.specs.Passes.{IsOf};
 
 use crate::verbs::{create, register, to_receive, to_send};
-use ca_base::{Change, DomainId, Key, Slot};
+use ca_base::{Change, DomainId, Key, Slot, Turn};
 use ca_mailbox::Weather;
 use ca_model::{Answer, Mark, Verb};
-use ca_model_places::Turn;
 use ca_verbs::{Fabric, Pass};
 use std::sync::Wait;
 

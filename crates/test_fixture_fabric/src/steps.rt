@@ -1,10 +1,9 @@
 ghost use Rattle.ca_verbs.specs.Passes.{IsOf};
 
 use crate::verbs::{create, register, to_receive, to_send};
-use ca_base::{Change, DomainId, Slot};
+use ca_base::{Change, DomainId, Slot, Turn};
 use ca_mailbox::Weather;
 use ca_model::Verb;
-use ca_model_places::Turn;
 use ca_verbs::{Fabric, Pass, Receipt, TryError};
 
 /// What is done on a fabric: a consumer calls a verb, or a turn is made where nothing befalls packets.

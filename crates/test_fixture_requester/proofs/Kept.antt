@@ -7,8 +7,8 @@ use Rattle.ca_keys.specs.declared.access.Ask.{Ask}
 use Rattle.ca_keys.specs.declared.memory.Memory.{Memory}
 use Rattle.ca_base.specs.declared.step.Reason.TheVariants as reasons
 use Rattle.ca_base.specs.declared.step.Sent.{Sent}
-use Rattle.ca_base.specs.declared.step.StepError.{StepError}
-use Rattle.ca_base.specs.declared.step.StepError.TheVariants as steps
+use Rattle.ca_base.specs.declared.step.ActError.{ActError}
+use Rattle.ca_base.specs.declared.step.ActError.TheVariants as steps
 use Rattle.ca_base.specs.declared.denied_ask.DeniedAsk.{DeniedAsk}
 use Rattle.ca_base.specs.Sight.{Sight, bytes_in, first_denied}
 use Rattle.ca_keys.specs.Refusals.{first_of}
@@ -72,7 +72,7 @@ pub record IsKept (q : QueuePair) (s : SmallReach) : Type 0 where
 same-kept : (q new : QueuePair) (s t : SmallReach) → IsKept q s → new ≡ q → t ≡ s → IsKept new t
 same-kept q new s t kept same reach = rw (same, reach) kept
 
-turn-ending-kept : (result : Result Sent StepError) (ending : Ending) (q new : QueuePair) (before after : MarkList) (s t : SmallReach) (out_before out_after : List ℕ)
+turn-ending-kept : (result : Result Sent ActError) (ending : Ending) (q new : QueuePair) (before after : MarkList) (s t : SmallReach) (out_before out_after : List ℕ)
     → IsKept q s → IsGoodEnding q ending → IsTurn after_write_by result ending q new before after s t out_before out_after → IsKept new t
 turn-ending-kept (Ok sent) (Does e) q new before after s t out_before out_after kept good h =
     rw (h.1.0.queue, h.1.1.0) (record { queue = good.sound; reach = writes-keep e.writes s kept.reach })
@@ -81,7 +81,7 @@ turn-ending-kept (Err (steps.NotReady reason)) ending q new before after s t out
     same-kept q new s t kept h.1.0.queue h.1.1.0
 turn-ending-kept (Err steps.Memory) ending q new before after s t out_before out_after kept good h = same-kept q new s t kept h.0.queue h.1.0
 
-pub turn_kept : (result : Result Sent StepError) (sight : Sight) (room : Bool) (q new : QueuePair) (before after : MarkList) (s t : SmallReach) (out_before out_after : List ℕ)
+pub turn_kept : (result : Result Sent ActError) (sight : Sight) (room : Bool) (q new : QueuePair) (before after : MarkList) (s t : SmallReach) (out_before out_after : List ℕ)
     → IsKept q s → IsTurn after_write_by result (ending_of sight (turn_row q room)) q new before after s t out_before out_after → IsKept new t
 turn_kept result sight room q new before after s t out_before out_after kept h =
     turn-ending-kept result (ending_of sight (turn_row q room)) q new before after s t out_before out_after kept
@@ -112,7 +112,7 @@ timeout-kept : (silent hasten : Bool) (q new : QueuePair) → IsQueue q → firs
 timeout-kept silent hasten q new is none same =
     rw same (timeout-good q silent is (not-false (is_sending q.state) (all-fail (timeout_refusals silent hasten q) none).0)).sound
 
-pub timeout_kept : (result : Result (Unit {0}) StepError) (silent hasten : Bool) (q new : QueuePair) (before after : MarkList) → IsQueue q
+pub timeout_kept : (result : Result (Unit {0}) ActError) (silent hasten : Bool) (q new : QueuePair) (before after : MarkList) → IsQueue q
     → IsStep result (first_of (timeout_refusals silent hasten q)) (after_timeout silent q) q new before after → IsQueue new
 timeout_kept (Ok done) silent hasten q new before after is h = timeout-kept silent hasten q new is h.0 h.1.queue
 timeout_kept (Err error) silent hasten q new before after is h = rw h.1.queue is

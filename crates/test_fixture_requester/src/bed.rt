@@ -12,8 +12,8 @@ ghost use Rattle.ca_wire.specs.Packet.{IsWellFormed};
 
 use ca_base::limits::{MAX_MESSAGE_BYTES, MAX_PIECES};
 use ca_base::{
-    Ask, Change, Memory, OpRefusal, Piece, PostedSend, Reason, SendRequest, Sent, Settings,
-    StepError,
+    ActError, Ask, Change, Memory, OpRefusal, Piece, PostedSend, Reason, SendRequest, Sent,
+    Settings,
 };
 use ca_model::Marks;
 use ca_qp_rows::{Arrival, arrival_of, drop_packet, is_local, list_of};
@@ -84,7 +84,7 @@ fn holds(list: &[Piece], most: u32) -> bool
 }
 
 // A timer fires.
-fn fire(q: &mut QueuePart, silent: bool, hasten: bool, marks: &mut Marks) -> Result<(), StepError>
+fn fire(q: &mut QueuePart, silent: bool, hasten: bool, marks: &mut Marks) -> Result<(), ActError>
     requires { CanStep q.old }
     ensures { IsQueue q.new }
 {
@@ -139,7 +139,7 @@ impl Bed {
         room: bool,
         marks: &mut Marks,
         out: &mut Vec<u8>,
-    ) -> Option<Result<Sent, StepError>>
+    ) -> Option<Result<Sent, ActError>>
         requires { beds.Stands self.old }
         ensures { beds.Stands self.new }
     {
@@ -147,8 +147,8 @@ impl Bed {
             return None;
         }
         let found = match next_turn(&self.queue) {
-            Err(reason) => return Some(Err(StepError::NotReady(reason))),
-            Ok(Turn::Performs(_)) => return Some(Err(StepError::NotReady(Reason::Empty))),
+            Err(reason) => return Some(Err(ActError::NotReady(reason))),
+            Ok(Turn::Performs(_)) => return Some(Err(ActError::NotReady(Reason::Empty))),
             Ok(Turn::Sends(found)) => found,
         };
         let asks = next_asks(&self.queue, &found);
@@ -195,7 +195,7 @@ impl Bed {
         silent: bool,
         hasten: bool,
         marks: &mut Marks,
-    ) -> Option<Result<(), StepError>>
+    ) -> Option<Result<(), ActError>>
         requires { beds.Stands self.old }
         ensures { beds.Stands self.new }
     {

@@ -10,8 +10,8 @@ use Rattle.ca_base.specs.declared.queue_numbers.Queued.{Queued}
 use Rattle.ca_base.specs.declared.step.Reason.{Reason}
 use Rattle.ca_base.specs.declared.step.Reason.TheVariants as reasons
 use Rattle.ca_base.specs.declared.step.Sent.{Sent}
-use Rattle.ca_base.specs.declared.step.StepError.{StepError}
-use Rattle.ca_base.specs.declared.step.StepError.TheVariants as steps
+use Rattle.ca_base.specs.declared.step.ActError.{ActError}
+use Rattle.ca_base.specs.declared.step.ActError.TheVariants as steps
 use Rattle.ca_keys.specs.Refusals.{first_of}
 use Rattle.ca_base.specs.Sight.{Invalidation, Sight}
 use Rattle.ca_base.specs.objects.QueuePair.{QueuePair}
@@ -167,7 +167,7 @@ asks_with false q P all =
     by false true answer = tt
     by false false answer = tt
 
-turn-ending-kept : (result : Result Sent StepError) (ending : Ending) (q new : QueuePair) (before after : MarkList) (s t : SmallReach) (out_before out_after : List ℕ)
+turn-ending-kept : (result : Result Sent ActError) (ending : Ending) (q new : QueuePair) (before after : MarkList) (s t : SmallReach) (out_before out_after : List ℕ)
     → IsQueue q → FitTogether s → IsGoodEnding q ending → IsTurn after_write_by result ending q new before after s t out_before out_after → IsKept new t
 turn-ending-kept (Ok sent) (Does e) q new before after s t out_before out_after queue parts good h =
     kept-by new e.queue t _ good.sound (writes-keep e.writes s parts) h.1.0.queue h.1.1.0
@@ -177,7 +177,7 @@ turn-ending-kept (Err (steps.NotReady reason)) ending q new before after s t out
 turn-ending-kept (Err steps.Memory) ending q new before after s t out_before out_after queue parts good h = kept-by new q t s queue parts h.0.queue h.1.0
 
 -- the responder's turn leaves a queue pair that comes up, over parts that fit each other
-pub respond_kept : (result : Result Sent StepError) (sight : Sight) (room : Bool) (q new : QueuePair) (before after : MarkList) (s t : SmallReach) (out_before out_after : List ℕ)
+pub respond_kept : (result : Result Sent ActError) (sight : Sight) (room : Bool) (q new : QueuePair) (before after : MarkList) (s t : SmallReach) (out_before out_after : List ℕ)
     → IsQueue q → FitTogether s → IsTurn after_write_by result (ending_of sight (respond_row room q)) q new before after s t out_before out_after → IsKept new t
 respond_kept result sight room q new before after s t out_before out_after queue parts h =
     turn-ending-kept result (ending_of sight (respond_row room q)) q new before after s t out_before out_after queue parts

@@ -19,7 +19,7 @@ ghost use Rattle.ca_wire.specs.Packet.{IsWellFormed, Spells};
 
 use ca_base::limits::{MAX_DEPTH, MAX_PAYLOAD_BYTES};
 use ca_base::{
-    Ask, DomainId, Key, Kind, Memory, QueueId, RecvRequest, Rights, Sent, Slot, StepError,
+    ActError, Ask, DomainId, Key, Kind, Memory, QueueId, RecvRequest, Rights, Sent, Slot,
     first_address,
 };
 use ca_grant::{judge, write_span};
@@ -192,7 +192,7 @@ fn respond(
     room: bool,
     marks: &mut Marks,
     out: &mut Vec<u8>,
-) -> Option<Result<Sent, StepError>>
+) -> Option<Result<Sent, ActError>>
     requires { beds.Stands bed.old }
     ensures { beds.Stands bed.new }
 {
@@ -389,7 +389,7 @@ impl Responder {
         room: bool,
         marks: &mut Marks,
         out: &mut Vec<u8>,
-    ) -> Option<Result<Sent, StepError>>
+    ) -> Option<Result<Sent, ActError>>
         requires { responders.Stands self.old }
         ensures { responders.Stands self.new }
     {

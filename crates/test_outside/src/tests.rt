@@ -90,7 +90,7 @@ fn more_than_one_read_goes_through(rt: HostRuntime) -> Result<(), Fail> {
 
     let mut sink = SureSink::new(rt.alloc(), 10_000)?;
     write_all(&mut sink, &came)?;
-    are(&rt, sink.bytes(), &bytes);
+    are(&rt, sink.taken(), &bytes);
     Ok(())
 }
 
@@ -109,7 +109,7 @@ fn a_failing_read_stops_the_transfer(rt: HostRuntime) -> Result<(), Fail> {
 fn a_failing_write_leaves_the_front(rt: HostRuntime) -> Result<(), Fail> {
     let mut sink = MemorySink::new(rt.alloc(), 20, [2].to_vec(rt.alloc())?, 7)?;
     assert!(rt; write_all(&mut sink, ALPHABET).is_err());
-    are(&rt, sink.bytes(), b"abcdefghijklmn");
+    are(&rt, sink.taken(), b"abcdefghijklmn");
     answers(&rt, sink.write(b"opqrstuvwxyz"), Ok(6));
     Ok(())
 }

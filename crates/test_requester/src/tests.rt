@@ -11,7 +11,7 @@ mod texts;
 mod wakes;
 mod worked_rows;
 
-use ca_base::{Bytes, Lot, OpRefusal, Sent, StepError};
+use ca_base::{ActError, Bytes, Lot, OpRefusal, Sent};
 use ca_model::{Event, Mark, Marks, Verb};
 use ca_qpstate::QueuePart;
 use ca_trace::{Line, print_reply};
@@ -97,7 +97,7 @@ fn send(rt: &impl Abort, alloc: Global, bed: &mut Bed, room: bool, text: &mut Ve
     match done {
         Some(Ok(Sent::Spelt { request })) => put_sent(rt, &bed.queue, request, out, text),
         Some(Ok(Sent::Silent)) => holds(rt, out.is_empty(), "no packet"),
-        Some(Err(StepError::NotReady(reason))) => {
+        Some(Err(ActError::NotReady(reason))) => {
             put_text(rt, reason_text(reason).as_bytes(), text);
             numbers_are(
                 rt,
@@ -156,7 +156,7 @@ fn undue(alloc: Global, bed: &mut Bed) -> &'static str
 {
     let mut marks = Marks::empty(alloc);
     match bed.time_out(false, false, &mut marks) {
-        Some(Err(StepError::NotReady(reason))) => reason_text(reason),
+        Some(Err(ActError::NotReady(reason))) => reason_text(reason),
         _ => "a timer that fired",
     }
 }
@@ -172,7 +172,7 @@ fn time_out(rt: &impl Abort, alloc: Global, bed: &mut Bed, hasten: bool, text: &
     put(rt, marks.as_slice(), text);
     match done {
         Some(Ok(())) => texts_are(rt, undue, b" reason not-due\n", "a timer that is not due"),
-        Some(Err(StepError::NotReady(reason))) => {
+        Some(Err(ActError::NotReady(reason))) => {
             put_text(rt, reason_text(reason).as_bytes(), text);
             texts_are(rt, undue, text.as_slice(), "the same reason");
             numbers_are(

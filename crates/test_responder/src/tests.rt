@@ -11,7 +11,7 @@ mod turns;
 mod windows;
 mod worked_rows;
 
-use ca_base::{Bytes, Lot, QueueId, SendOp, SendRequest, Sent, Slot, StepError};
+use ca_base::{ActError, Bytes, Lot, QueueId, SendOp, SendRequest, Sent, Slot};
 use ca_model::{Event, Mark, Marks, Verb};
 use ca_qpstate::QueuePart;
 use ca_trace::{Line, print_reply};
@@ -95,7 +95,7 @@ fn respond(rt: &impl Abort, alloc: Global, r: &mut Responder, room: bool, text: 
     put(rt, marks.as_slice(), text);
     match done {
         Some(Ok(Sent::Spelt { request: None })) => put_sent(rt, &r.bed.queue, out, text),
-        Some(Err(StepError::NotReady(reason))) => {
+        Some(Err(ActError::NotReady(reason))) => {
             put_text(rt, reason_text(reason).as_bytes(), text);
             let after = numbers(&r.bed.queue);
             numbers_are(rt, after.as_slice(), before.as_slice(), "unchanged");

@@ -40,6 +40,25 @@ c1 wait 1/0/0 1
 c1 load 1/0 0 5
 ";
 
+/// Four consumers, each with a domain of its own, who store and load.
+const FOUR: &str = "buffer 0 4096
+c0 pd 0/0
+c0 store 0/0 0 00
+c0 load 0/0 0 1
+c1 pd 0/1
+c1 store 0/0 1 01
+c1 load 0/0 1 1
+c2 pd 0/2
+c2 store 0/0 2 02
+c2 load 0/0 2 1
+c3 pd 0/3
+c3 store 0/0 3 03
+c3 load 0/0 3 1
+";
+
+/// How many entries the four make.
+const ENTRIES: u64 = 12;
+
 /// What the two loads answer, whatever the order.
 const LOADED: [&str; 2] = [
     " c0 load 0/0 64 5 -> bytes 68656c6c6f\n",
@@ -74,10 +93,36 @@ impl Gate for LaterFirst<'_> {
     }
 }
 
-// The output of the pair, raced with so many workers; None where it is not fine.
+/// A gate that counts the calls of each of four workers, and notes whether one came out of its turn.
+#[derive(Drop)]
+struct Counting<'a> {
+    first: &'a AtomicU64,
+    second: &'a AtomicU64,
+    third: &'a AtomicU64,
+    fourth: &'a AtomicU64,
+    wrong: &'a AtomicU64,
+}
+
+impl Gate for Counting<'_> {
+    fn at(&self, worker: u32, step: u64) {
+        let in_turn = match worker {
+            0 => self.first.fetch_add(1, Ordering::SeqCst) == step,
+            1 => self.second.fetch_add(1, Ordering::SeqCst) == step,
+            2 => self.third.fetch_add(1, Ordering::SeqCst) == step,
+            3 => self.fourth.fetch_add(1, Ordering::SeqCst) == step,
+            _ => false,
+        };
+        if !in_turn {
+            self.wrong.store(1, Ordering::SeqCst);
+        }
+    }
+}
+
+// The output of a script, raced with so many workers; None where it is not fine.
 fn raced<R: Threads + Wait + Sync, G: Gate + Sync>(
     rt: &R,
     alloc: Global,
+    script: &str,
     workers: &str,
     gate: &G,
 ) -> Option<String> {
@@ -85,13 +130,13 @@ fn raced<R: Threads + Wait + Sync, G: Gate + Sync>(
     words.push(String::from_str(alloc, "race").ok()?).ok()?;
     words.push(String::from_str(alloc, "--workers").ok()?).ok()?;
     words.push(String::from_str(alloc, workers).ok()?).ok()?;
-    let mut source = SureSource::new(Vec::from_slice(alloc, PAIR.as_bytes()).ok()?);
+    let mut source = SureSource::new(Vec::from_slice(alloc, script.as_bytes()).ok()?);
     let mut sink = SureSink::new(alloc, ROOM).ok()?;
     let status = run(rt, alloc, words.as_slice(), &mut source, &mut sink, gate);
     if exit_code(&status) != 0 {
         return None;
     }
-    text_of(alloc, sink.bytes())
+    text_of(alloc, sink.taken())
 }
 
 // These bytes as a text.
@@ -107,7 +152,7 @@ fn is_loaded(text: &str) -> bool {
 #[test]
 fn a_race_comes_to_the_same_bytes_with_any_number_of_workers(rt: HostRuntime) -> Result<(), Fail> {
     for workers in ["1", "2", "4", "16"].as_slice() {
-        let loaded = match raced(&rt, rt.alloc(), workers, &FreeGate) {
+        let loaded = match raced(&rt, rt.alloc(), PAIR, workers, &FreeGate) {
             Some(text) => is_loaded(&text),
             None => false,
         };
@@ -122,11 +167,43 @@ fn a_race_is_worked_by_several_threads(rt: HostRuntime) -> Result<(), Fail> {
     let gate = LaterFirst {
         answered: &answered,
     };
-    let loaded = match raced(&rt, rt.alloc(), "2", &gate) {
+    let loaded = match raced(&rt, rt.alloc(), PAIR, "2", &gate) {
         Some(text) => is_loaded(&text),
         None => false,
     };
     assert!(rt; loaded);
     assert!(rt; answered.load(Ordering::SeqCst) == 1);
+    Ok(())
+}
+
+#[test]
+fn the_gate_is_asked_at_each_step_of_each_worker(rt: HostRuntime) -> Result<(), Fail> {
+    let first = AtomicU64::new(0);
+    let second = AtomicU64::new(0);
+    let third = AtomicU64::new(0);
+    let fourth = AtomicU64::new(0);
+    let wrong = AtomicU64::new(0);
+    let gate = Counting {
+        first: &first,
+        second: &second,
+        third: &third,
+        fourth: &fourth,
+        wrong: &wrong,
+    };
+    let fine = raced(&rt, rt.alloc(), FOUR, "4", &gate).is_some();
+    assert!(rt; fine);
+    assert!(rt; wrong.load(Ordering::SeqCst) == 0);
+    let calls: [u64; 4] = [
+        first.load(Ordering::SeqCst),
+        second.load(Ordering::SeqCst),
+        third.load(Ordering::SeqCst),
+        fourth.load(Ordering::SeqCst),
+    ];
+    let mut all: u64 = 0;
+    for asked in calls.as_slice() {
+        assert!(rt; *asked > 0);
+        all = all.saturating_add(*asked);
+    }
+    assert!(rt; all >= ENTRIES);
     Ok(())
 }

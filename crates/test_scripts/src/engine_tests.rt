@@ -1,9 +1,8 @@
 mod offers;
 
 use arrayvec::ArrayVec;
-use ca_base::{AdapterConfig, Config, QueueId};
+use ca_base::{AdapterConfig, Config, QueueId, Turn};
 use ca_engine::{Engine, Offer, Outcome};
-use ca_model_places::Turn;
 use std::process::Abort;
 
 const FIRST: QueueId = QueueId {

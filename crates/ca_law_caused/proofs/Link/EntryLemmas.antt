@@ -85,7 +85,7 @@ injected-unclean s own injected = by (is_clean s own) refl
         b = ends.b
 
         front : Bool
-        front = correspondent_eq a.peer b.own && correspondent_eq b.peer a.own && (a.mtu == b.mtu) && begins_as_expected s a.own b && begins_as_expected s b.own a
+        front = not (queue_eq a.own.queue b.own.queue) && correspondent_eq a.peer b.own && correspondent_eq b.peer a.own && (a.mtu == b.mtu) && begins_as_expected s a.own b && begins_as_expected s b.own a
 
         free : is_not_injected s a.own ≡ true
         free = (and_parts front (is_not_injected s a.own) (and_parts (front && is_not_injected s a.own) (is_not_injected s b.own) ends.clean).0).1

@@ -12,6 +12,7 @@ use Rattle.ca_base.specs.declared.request.SendRequest.{SendRequest}
 use Rattle.ca_base.specs.objects.QueuePair.{QueueSlot, NoQueue, Present}
 use Rattle.ca_keys.specs.Numbers.{queue_of}
 use Rattle.ca_keys.specs.declared.key.Key.{Key}
+use Rattle.ca_keys.specs.Equal.{queue_eq}
 use Rattle.ca_keys.specs.declared.names.QueueId.{QueueId}
 use Rattle.ca_keys.specs.declared.names.Slot.{Slot}
 use Rattle.ca_law_world.proofs.Sound.SettledLemmas.{queue-path, queue-refl}
@@ -46,7 +47,7 @@ pub clean-connection : (past : Past) (a b : Naming) → Among a past.namings →
 clean-connection past a b a_in b_in unique clean = record {
   a_in = a_in;
   b_in = b_in;
-  a_names = correspondent-path a.peer b.own p1.0;
+  a_names = correspondent-path a.peer b.own p0.1;
   b_names = correspondent-path b.peer a.own p1.1;
   mtu = eqb-true a.mtu b.mtu p2.1;
   begins = p3.1;
@@ -55,6 +56,9 @@ clean-connection past a b a_in b_in unique clean = record {
   unique = unique;
 }
   where
+    t0 : Bool
+    t0 = not (queue_eq a.own.queue b.own.queue)
+
     t1 : Bool
     t1 = correspondent_eq a.peer b.own
 
@@ -76,23 +80,26 @@ clean-connection past a b a_in b_in unique clean = record {
     t7 : Bool
     t7 = is_not_injected past b.own
 
-    p6 : ((t1 && t2 && t3 && t4 && t5 && t6) ≡ true) × (t7 ≡ true)
-    p6 = and_parts (t1 && t2 && t3 && t4 && t5 && t6) t7 clean
+    p6 : ((t0 && t1 && t2 && t3 && t4 && t5 && t6) ≡ true) × (t7 ≡ true)
+    p6 = and_parts (t0 && t1 && t2 && t3 && t4 && t5 && t6) t7 clean
 
-    p5 : ((t1 && t2 && t3 && t4 && t5) ≡ true) × (t6 ≡ true)
-    p5 = and_parts (t1 && t2 && t3 && t4 && t5) t6 p6.0
+    p5 : ((t0 && t1 && t2 && t3 && t4 && t5) ≡ true) × (t6 ≡ true)
+    p5 = and_parts (t0 && t1 && t2 && t3 && t4 && t5) t6 p6.0
 
-    p4 : ((t1 && t2 && t3 && t4) ≡ true) × (t5 ≡ true)
-    p4 = and_parts (t1 && t2 && t3 && t4) t5 p5.0
+    p4 : ((t0 && t1 && t2 && t3 && t4) ≡ true) × (t5 ≡ true)
+    p4 = and_parts (t0 && t1 && t2 && t3 && t4) t5 p5.0
 
-    p3 : ((t1 && t2 && t3) ≡ true) × (t4 ≡ true)
-    p3 = and_parts (t1 && t2 && t3) t4 p4.0
+    p3 : ((t0 && t1 && t2 && t3) ≡ true) × (t4 ≡ true)
+    p3 = and_parts (t0 && t1 && t2 && t3) t4 p4.0
 
-    p2 : ((t1 && t2) ≡ true) × (t3 ≡ true)
-    p2 = and_parts (t1 && t2) t3 p3.0
+    p2 : ((t0 && t1 && t2) ≡ true) × (t3 ≡ true)
+    p2 = and_parts (t0 && t1 && t2) t3 p3.0
 
-    p1 : (t1 ≡ true) × (t2 ≡ true)
-    p1 = and_parts t1 t2 p2.0
+    p1 : ((t0 && t1) ≡ true) × (t2 ≡ true)
+    p1 = and_parts (t0 && t1) t2 p2.0
+
+    p0 : (t0 ≡ true) × (t1 ≡ true)
+    p0 = and_parts t0 t1 p1.0
 
 same-number : (m n : ℕ) → m ≡ n → (m == n) ≡ true
 same-number m n same = grind (arith, nat_tests)

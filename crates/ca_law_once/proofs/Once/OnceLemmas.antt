@@ -16,7 +16,7 @@ use Rattle.ca_connection.specs.Link.{Link, opening}
 use Rattle.ca_keys.specs.Equal.{queue_eq}
 use Rattle.ca_keys.specs.Memory.{ByteMap}
 use Rattle.ca_model.specs.Entries.{EntryValue}
-use Rattle.ca_model.specs.Once.{acts_at_most_once, is_clean, is_clean_pair, times_acted}
+use Rattle.ca_model.specs.Once.{acts_at_most_once, is_clean, is_clean_pair, is_posted_atomic, times_acted}
 use Rattle.ca_model.specs.Past.{Acted, Naming, Past, after_entries, after_entry, after_marks, at_begin, correspondent_eq, opening_past}
 use Rattle.ca_model.specs.declared.event.Event.{Event}
 use Rattle.ca_model.specs.declared.event.Event.TheVariants as events
@@ -250,11 +250,12 @@ once-along c bytes es limited made follows = every-passes (acts_at_most_once end
     end = after_entries es (opening_past bytes)
 
     one : (x : Acted) → acts_at_most_once end x ≡ true
-    one x = by (is_clean end x.own) refl
+    one x = by (is_clean end x.own) (is_posted_atomic end x.own x.place) refl
       where
-        by : (b : Bool) → is_clean end x.own ≡ b → (not b || nat_le (times_acted end x.own x.place) 1) ≡ true
-        by false none = refl
-        by true clean = few-test (times_acted end x.own x.place) (subst (λ own. times_acted end own x.place ≤ 1) ends.own_is
+        by : (b atomic : Bool) → is_clean end x.own ≡ b → (not (b && atomic) || nat_le (times_acted end x.own x.place) 1) ≡ true
+        by false atomic none = refl
+        by true false clean = refl
+        by true true clean = few-test (times_acted end x.own x.place) (subst (λ own. times_acted end own x.place ≤ 1) ends.own_is
             (linked-once end ends.a ends.b x.place (connection-linked c bytes es ends.a ends.b (connection-started c bytes es ends.a ends.b limited made follows ends.a_in ends.b_in ends.clean))))
           where
             ends : EndOf end x.own

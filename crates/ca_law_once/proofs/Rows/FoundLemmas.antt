@@ -14,7 +14,7 @@ use Rattle.ca_model.specs.declared.mark.Mark.{Mark}
 use Rattle.ca_model.specs.machine.Completions.{flush_marks, flushed_message, flushed_receives, flushed_sends}
 use Rattle.ca_model.specs.machine.Expected.{revoked_marks}
 use Rattle.ca_model.specs.machine.Responses.{local_writes}
-use Rattle.ca_law_once.specs.Moves.{is_written, number_found, numbers_found, writes_told}
+use Rattle.ca_law_once.specs.Moves.{is_remote_write, number_found, numbers_found, writes_told}
 
 pub found-append : (ms ns : List Mark) → numbers_found (ms ++ ns) ≡ numbers_found ms ++ numbers_found ns
 found-append [] ns = refl
@@ -65,17 +65,17 @@ revoked-none q (Some i) = refl
 
 -- ---- remote writes
 
-pub wrote-found-append : (ms ns : List Mark) → writes_told (ms ++ ns) ≡ writes_told ms + writes_told ns
-wrote-found-append [] ns = omega arith
-wrote-found-append (m ∷ ms) ns = by (is_written m) (wrote-found-append ms ns)
+pub wrote-append : (ms ns : List Mark) → writes_told (ms ++ ns) ≡ writes_told ms + writes_told ns
+wrote-append [] ns = omega arith
+wrote-append (m ∷ ms) ns = by (is_remote_write m) (wrote-append ms ns)
   where
     by : (b : Bool) → writes_told (ms ++ ns) ≡ writes_told ms + writes_told ns
         → (if b then suc (writes_told (ms ++ ns)) else writes_told (ms ++ ns)) ≡ (if b then suc (writes_told ms) else writes_told ms) + writes_told ns
     by true rest = omega (arith, rest)
     by false rest = rest
 
-pub wrote-found-behind : (ms ns : List Mark) → writes_told ms ≡ 0 → writes_told (ms ++ ns) ≡ writes_told ns
-wrote-found-behind ms ns none = omega (arith, wrote-found-append ms ns, none)
+pub wrote-behind : (ms ns : List Mark) → writes_told ms ≡ 0 → writes_told (ms ++ ns) ≡ writes_told ns
+wrote-behind ms ns none = omega (arith, wrote-append ms ns, none)
 
 wrote-sends-none : (queue : QueueId) (place : ℕ) (ps : List PostedSend) → writes_told (flushed_sends queue place ps) ≡ 0
 wrote-sends-none queue place [] = refl
@@ -95,7 +95,7 @@ wrote-own-none queue None = refl
 wrote-own-none queue (Some r) = wrote-receives-none queue r.next_taken (items_from r.next_taken r)
 
 pub wrote-flush-none : (q : QueuePair) → writes_told (flush_marks q) ≡ 0
-wrote-flush-none q = wrote-found-behind (sends ++ message) receives (wrote-found-behind sends message (wrote-sends-none q.queue q.requester.oldest (items_from q.requester.oldest q.sends)) ∙ wrote-message-none q.queue q.responder.message)
+wrote-flush-none q = wrote-behind (sends ++ message) receives (wrote-behind sends message (wrote-sends-none q.queue q.requester.oldest (items_from q.requester.oldest q.sends)) ∙ wrote-message-none q.queue q.responder.message)
     ∙ wrote-own-none q.queue q.receives
   where
     sends : List Mark

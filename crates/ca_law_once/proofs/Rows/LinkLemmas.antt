@@ -1,5 +1,5 @@
 -- What rows do is a move of a link: it leads to another link.
-use Rattle.std.proofs.Common.{◌≡◌, ℕ, ◌+◌, ◌%◌, ◌^◌, ◌==◌, Bool, true, false, if◌then◌else◌, List, [], ◌∷◌, ◌++◌, map, Some, refl, ap, ap₂, sym, ◌∙◌}
+use Rattle.std.proofs.Common.{◌≡◌, ℕ, ◌+◌, ◌%◌, ◌^◌, ◌==◌, Bool, true, false, if◌then◌else◌, List, [], ◌∷◌, ◌++◌, map, Some, refl, ap, ap₂, sym, ◌∙◌, replicate}
 use Rattle.std.proofs.lemmas.Bool.{eqb-true}
 use Rattle.ca_base.specs.objects.QueuePair.{QueuePair}
 use Rattle.ca_connection.proofs.OnceLemmas.{law-request-near, law-response-near}
@@ -12,7 +12,7 @@ use Rattle.ca_connection.specs.Moves.Reception.{Neither, Rejected, Accepted}
 use Rattle.ca_connection.specs.Once.{numbers_at}
 use Rattle.ca_model.specs.machine.Row.{Effects}
 use Rattle.ca_psn.specs.Psn.{widened}
-use Rattle.ca_law_once.specs.Links.{IsReceived, IsTaken, LeadsTo, found_at, times}
+use Rattle.ca_law_once.specs.Links.{IsReceived, IsTaken, LeadsTo, found_at}
 use Rattle.ca_law_once.specs.Moves.{ForgetsIn, GoesBackIn, ReceivesIn, RespondsIn, SendsIn, TakesIn, found_in, writes_told, written_in}
 use Rattle.ca_law_once.specs.Sides.{kept_result, requester_in, responder_in, said}
 use Rattle.ca_law_once.proofs.Rows.KeepLemmas.{keeps-all}
@@ -36,21 +36,21 @@ found-grows d w place at (Accepted found) before is = by (place == at) refl
     by false e = refl
 
 numbers-grow : (d : Direction) (w n place at count : ℕ) (r : Reception) (before : List Acceptance) → w ≡ n → is_write (d.work at) ≡ true → count ≡ written_in (d.work place) r
-    → numbers_at at (acceptances_after w place r before) ≡ (if place == at then times count n else []) ++ numbers_at at before
+    → numbers_at at (acceptances_after w place r before) ≡ (if place == at then replicate count n else []) ++ numbers_at at before
 numbers-grow d w n place at count Neither before same is none = by (place == at)
   where
-    by : (b : Bool) → numbers_at at before ≡ (if b then times count n else []) ++ numbers_at at before
-    by true = ap (λ (k : ℕ). times k n ++ numbers_at at before) (sym none)
+    by : (b : Bool) → numbers_at at before ≡ (if b then replicate count n else []) ++ numbers_at at before
+    by true = ap (λ (k : ℕ). replicate k n ++ numbers_at at before) (sym none)
     by false = refl
 numbers-grow d w n place at count (Rejected code) before same is none = by (place == at)
   where
-    by : (b : Bool) → numbers_at at before ≡ (if b then times count n else []) ++ numbers_at at before
-    by true = ap (λ (k : ℕ). times k n ++ numbers_at at before) (sym none)
+    by : (b : Bool) → numbers_at at before ≡ (if b then replicate count n else []) ++ numbers_at at before
+    by true = ap (λ (k : ℕ). replicate k n ++ numbers_at at before) (sym none)
     by false = refl
 numbers-grow d w n place at count (Accepted found) before same is one = by (place == at) refl
   where
-    by : (b : Bool) → (place == at) ≡ b → (if b then w ∷ numbers_at at before else numbers_at at before) ≡ (if b then times count n else []) ++ numbers_at at before
-    by true e = ap (λ (m : ℕ). m ∷ numbers_at at before) same ∙ ap (λ (k : ℕ). times k n ++ numbers_at at before) (sym (one ∙ ap (λ (b : Bool). if b then 1 else 0) (ap (λ p. is_write (d.work p)) (eqb-true place at e) ∙ is)))
+    by : (b : Bool) → (place == at) ≡ b → (if b then w ∷ numbers_at at before else numbers_at at before) ≡ (if b then replicate count n else []) ++ numbers_at at before
+    by true e = ap (λ (m : ℕ). m ∷ numbers_at at before) same ∙ ap (λ (k : ℕ). replicate k n ++ numbers_at at before) (sym (one ∙ ap (λ (b : Bool). if b then 1 else 0) (ap (λ p. is_write (d.work p)) (eqb-true place at e) ∙ is)))
     by false e = refl
 
 pub received-moves : (d : Direction) (l : Link) (k : ℕ) (x : RequestPacket) (e : Effects) → Reached d l → MayArrive l k x

@@ -56,7 +56,7 @@ use Rattle.ca_wire.specs.declared.shape.Position.{Position}
 use Rattle.ca_wire.specs.declared.shape.Shape.{Shape}
 use Rattle.ca_wire.specs.declared.shape.Shape.TheVariants as shapes
 use Rattle.ca_psn.specs.Psn.{widened}
-use Rattle.ca_law_once.proofs.Rows.FoundLemmas.{flush-none, found-behind, revoked-none, writes-none, wrote-flush-none, wrote-found-behind, wrote-revoked-none, wrote-writes-none}
+use Rattle.ca_law_once.proofs.Rows.FoundLemmas.{flush-none, found-behind, revoked-none, writes-none, wrote-flush-none, wrote-behind, wrote-revoked-none, wrote-writes-none}
 use Rattle.ca_law_once.proofs.Rows.KeepLemmas.{keeps-all, keeps-filter, keeps-take}
 use Rattle.ca_law_once.specs.Entries.{RequestEntry}
 use Rattle.ca_law_once.specs.Moves.{ReceivesIn, RowLeads, found_in, numbers_found, writes_told, written_in}
@@ -135,7 +135,7 @@ behind d x w r ms e none unwritten does = record {
   reception = does.reception;
   receives = does.receives;
   found = found-behind ms e.marks none ∙ does.found;
-  wrote = wrote-found-behind ms e.marks unwritten ∙ does.wrote;
+  wrote = wrote-behind ms e.marks unwritten ∙ does.wrote;
   mtu = does.mtu;
 }
 

@@ -1,5 +1,5 @@
 -- A delivery keeps the receiver's tie, and the sender's.
-use Rattle.std.proofs.Common.{◌≡◌, ℕ, ◌==◌, ◌++◌, ◌∷◌, inl, inr, ◌%◌, ◌^◌, Bool, true, false, if◌then◌else◌, List, [], Option, None, Some, slice_get, refl, ap, sym, subst, ◌∙◌, arith, true≢false}
+use Rattle.std.proofs.Common.{◌≡◌, ℕ, ◌==◌, ◌++◌, ◌∷◌, inl, inr, ◌%◌, ◌^◌, Bool, true, false, if◌then◌else◌, List, [], Option, None, Some, slice_get, refl, ap, sym, subst, ◌∙◌, arith, true≢false, replicate}
 use Rattle.std.proofs.lemmas.Bool.{eqb-true}
 use Rattle.std.proofs.lemmas.Option.{same_Some}
 use Rattle.ca_law_endings.proofs.InnerLemmas.{IsInner, arrival-inner}
@@ -29,7 +29,7 @@ use Rattle.ca_law_once.specs.Ties.SenderTie.{before as sender_before, standing a
 use Rattle.ca_law_once.proofs.Rows.ArrivalLemmas.{arrival-state, other-request-stays, other-response-forgets, request-received, response-taken}
 use Rattle.ca_law_once.proofs.Rows.LinkLemmas.{forgotten-moves, received-moves, taken-moves}
 use Rattle.ca_law_once.specs.Entries.{SpellsRequest, SpellsResponse, SpellsSomeRequest, SpellsSomeResponse}
-use Rattle.ca_law_once.specs.Links.{IsReceived, IsTaken, LeadsTo, found_at, times}
+use Rattle.ca_law_once.specs.Links.{IsReceived, IsTaken, LeadsTo, found_at}
 use Rattle.ca_law_once.specs.Moves.{ForgetsIn, LeavesState, ReceivesIn, StaysIn, TakesIn, found_in, numbers_found, writes_told, written_in}
 use Rattle.ca_law_once.specs.Sides.{requester_in, responder_in}
 
@@ -116,7 +116,7 @@ nothing-found d p place x numbers none are = by (p.place == place) refl
     by false e = refl
 
 -- what is no WRITE writes nothing
-nothing-written : (d : Direction) (p : RequestPacket) (place : ℕ) (x : Reception) (count : ℕ) → is_write (d.work place) ≡ false → count ≡ written_in (d.work p.place) x → (if p.place == place then times count p.number else []) ≡ []
+nothing-written : (d : Direction) (p : RequestPacket) (place : ℕ) (x : Reception) (count : ℕ) → is_write (d.work place) ≡ false → count ≡ written_in (d.work p.place) x → (if p.place == place then replicate count p.number else []) ≡ []
 nothing-written d p place x count none are = by (p.place == place) refl
   where
     of : (y : Reception) → is_write (d.work p.place) ≡ false → written_in (d.work p.place) y ≡ 0
@@ -124,8 +124,8 @@ nothing-written d p place x count none are = by (p.place == place) refl
     of (Rejected code) is = refl
     of (Accepted found) is = ap (λ (b : Bool). if b then 1 else 0) is
 
-    by : (b : Bool) → (p.place == place) ≡ b → (if b then times count p.number else []) ≡ []
-    by true e = ap (λ (n : ℕ). times n p.number) (are ∙ of x (ap (λ n. is_write (d.work n)) (eqb-true p.place place e) ∙ none))
+    by : (b : Bool) → (p.place == place) ≡ b → (if b then replicate count p.number else []) ≡ []
+    by true e = ap (λ (n : ℕ). replicate n p.number) (are ∙ of x (ap (λ n. is_write (d.work n)) (eqb-true p.place place e) ∙ none))
     by false e = refl
 
 pub receiver-step : (d : Direction) (s r : Correspondent) (l : Link) (index : ℕ) (q : QueuePair) (m : Mailbox) (bytes : List ℕ) (shared : Option SharedReceives) (e : Effects) (ms : List Mark)
@@ -180,7 +180,7 @@ receiver-step d s r l index q m bytes shared e ms x told told_writes reached tie
           (subst (AreEntries (SpellsRequest d) SpellsSomeResponse (after_delivery index m).envelopes) (sym after.requests_are) (delivered-entries (SpellsRequest d) SpellsSomeResponse k m.envelopes l.requests entries));
       found = λ place is. after.found place is ∙ ap (λ ns. (if p.place == place then ns else []) ++ found_at place l.acceptances) (sym told);
       plain = λ place is. nothing-found d p place does.reception (numbers_found ms) is (told ∙ does.found);
-      wrote = λ place is. after.wrote place is ∙ ap (λ (n : ℕ). (if p.place == place then times n p.number else []) ++ numbers_at place l.acceptances) (sym told_writes);
+      wrote = λ place is. after.wrote place is ∙ ap (λ (n : ℕ). (if p.place == place then replicate n p.number else []) ++ numbers_at place l.acceptances) (sym told_writes);
       unwritten = λ place is. nothing-written d p place does.reception (writes_told ms) is (told_writes ∙ does.wrote);
       requests_are = after.requests_are;
     }

@@ -1,5 +1,5 @@
 -- Which packets wrote, by the marks of an event. For proofs only.
-use Rattle.std.proofs.Common.{◌≡◌, ℕ, zero, suc, ◌==◌, ◌&&◌, ◌++◌, ◌⊎◌, inl, inr, Bool, true, false, if◌then◌else◌, List, [], ◌∷◌, Option, None, Some, is_some, refl, ap, ap₂, sym, subst, ◌∙◌, true≢false, arith}
+use Rattle.std.proofs.Common.{◌≡◌, ℕ, zero, suc, ◌==◌, ◌&&◌, ◌++◌, ◌⊎◌, inl, inr, Bool, true, false, if◌then◌else◌, List, [], ◌∷◌, Option, None, Some, is_some, refl, ap, ap₂, sym, subst, ◌∙◌, true≢false, arith, replicate}
 use Rattle.std.proofs.lemmas.Bool.{and_parts}
 use Rattle.std.specs.Option.{option_and_then, option_eq, option_map, option_map_or}
 use Rattle.ca_law_endings.proofs.InnerLemmas.{AreOwn, IsOwnMark}
@@ -22,8 +22,7 @@ use Rattle.ca_model.specs.declared.mark.Mark.{Mark}
 use Rattle.ca_model.specs.declared.mark.Mark.TheVariants as marks
 use Rattle.ca_law_once.proofs.Once.ActedLemmas.{AreUnmet, HasMet, HasNotMet, IsUnmetMark, StaysMet, StaysUnmet, met-index, met-one, unmet-arrived, unmet-one}
 use Rattle.ca_wire.specs.Packet.{Fields}
-use Rattle.ca_law_once.specs.Links.{times}
-use Rattle.ca_law_once.specs.Moves.{is_written as is_write_mark, writes_told}
+use Rattle.ca_law_once.specs.Moves.{is_remote_write, writes_told}
 use Rattle.ca_law_once.specs.Written.{Writes, Wrote, psn_in, psns_at, writes_after, writes_of_marks, wrote_after, wrote_by, wrote_for, wrote_of}
 
 -- ---- a mark of a write
@@ -94,7 +93,7 @@ record MetOnce (e : Envelope) (m : Mark) (p : Past) (xs : List Wrote) : Type 0 w
   wrote : wrote_after p m xs ≡ wrote_onto e (writes_told (m ∷ [])) xs
   packet : (writes_told (m ∷ []) ≡ 0) ⊎ (is_some (packet_of e.bytes) ≡ true)
 
-no-write : (e : Envelope) (m : Mark) (p : Past) (xs : List Wrote) → is_write_mark m ≡ false → wrote_after p m xs ≡ xs → MetOnce e m p xs
+no-write : (e : Envelope) (m : Mark) (p : Past) (xs : List Wrote) → is_remote_write m ≡ false → wrote_after p m xs ≡ xs → MetOnce e m p xs
 no-write e m p xs none same = record {
   wrote = same ∙ ap (λ (b : Bool). wrote_onto e (if b then suc zero else zero) xs) (sym none);
   packet = inl (ap (λ (b : Bool). if b then suc zero else zero) none);
@@ -127,8 +126,8 @@ met-write name index e p (marks.Dropped target cause) xs met carried judged = no
 met-write name index e p (marks.Timer queue silent) xs met carried judged = no-write e (marks.Timer queue silent) p xs refl refl
 met-write name index e p (marks.Done queue x cause) xs met carried judged = no-write e (marks.Done queue x cause) p xs refl refl
 
-onto-more : (e : Envelope) (k : ℕ) (m : Mark) (xs : List Wrote) → wrote_onto e k (wrote_onto e (writes_told (m ∷ [])) xs) ≡ wrote_onto e (if is_write_mark m then suc k else k) xs
-onto-more e k m xs = by (is_write_mark m)
+onto-more : (e : Envelope) (k : ℕ) (m : Mark) (xs : List Wrote) → wrote_onto e k (wrote_onto e (writes_told (m ∷ [])) xs) ≡ wrote_onto e (if is_remote_write m then suc k else k) xs
+onto-more e k m xs = by (is_remote_write m)
   where
     by : (b : Bool) → wrote_onto e k (wrote_onto e (if b then suc zero else zero) xs) ≡ wrote_onto e (if b then suc k else k) xs
     by true = refl
@@ -153,7 +152,7 @@ met-both e m ms p w here rest = record {
     both : (writes_told (m ∷ []) ≡ 0) ⊎ (is_some (packet_of e.bytes) ≡ true) → (writes_told ms ≡ 0) ⊎ (is_some (packet_of e.bytes) ≡ true) → (writes_told (m ∷ ms) ≡ 0) ⊎ (is_some (packet_of e.bytes) ≡ true)
     both (inr is) other = inr is
     both (inl none) (inr is) = inr is
-    both (inl none) (inl nothing) = inl (count (is_write_mark m) none nothing)
+    both (inl none) (inl nothing) = inl (count (is_remote_write m) none nothing)
 
 pub met-wrote : (name : QueueId) (index : ℕ) (e : Envelope) (ms : List Mark) (p : Past) (w : Writes) → AreOwn ms → HasMet name index e p → each_mark has_its_packet p ms ≡ true → each_mark is_judged p ms ≡ true → MetAll e ms p w
 met-wrote name index e [] p w own met carried judged = record { wrote = refl; packet = inl refl }
@@ -183,12 +182,12 @@ onto-other own place e (suc n) xs other = onto-other own place e n (wrote_of e +
     by None = refl
     by (Some k) = ap (λ b. if b && (k == place) then psn_in e.bytes ∷ psns_at own place xs else psns_at own place xs) other
 
-times-more : (n p : ℕ) (xs : List ℕ) → times n p ++ (p ∷ xs) ≡ p ∷ (times n p ++ xs)
-times-more zero p xs = refl
-times-more (suc n) p xs = ap (λ ys. p ∷ ys) (times-more n p xs)
+replicate-more : (n p : ℕ) (xs : List ℕ) → replicate n p ++ (p ∷ xs) ≡ p ∷ (replicate n p ++ xs)
+replicate-more zero p xs = refl
+replicate-more (suc n) p xs = ap (λ ys. p ∷ ys) (replicate-more n p xs)
 
 pub onto-own : (own : Correspondent) (place x : ℕ) (e : Envelope) (n : ℕ) (xs : List Wrote) → correspondent_eq e.source own ≡ true → e.request ≡ Some x
-    → psns_at own place (wrote_onto e n xs) ≡ (if x == place then times n (psn_in e.bytes) else []) ++ psns_at own place xs
+    → psns_at own place (wrote_onto e n xs) ≡ (if x == place then replicate n (psn_in e.bytes) else []) ++ psns_at own place xs
 onto-own own place x e n xs mine is = by (x == place) refl
   where
     psn : ℕ
@@ -197,14 +196,14 @@ onto-own own place x e n xs mine is = by (x == place) refl
     head : (xs : List Wrote) → psns_at own place (wrote_of e ++ xs) ≡ (if x == place then psn ∷ psns_at own place xs else psns_at own place xs)
     head xs = ap (λ (o : Option ℕ). psns_at own place (wrote_for e.source o psn ++ xs)) is ∙ ap (λ b. if b && (x == place) then psn ∷ psns_at own place xs else psns_at own place xs) mine
 
-    yes : (x == place) ≡ true → (n : ℕ) (xs : List Wrote) → psns_at own place (wrote_onto e n xs) ≡ times n psn ++ psns_at own place xs
+    yes : (x == place) ≡ true → (n : ℕ) (xs : List Wrote) → psns_at own place (wrote_onto e n xs) ≡ replicate n psn ++ psns_at own place xs
     yes same zero xs = refl
-    yes same (suc n) xs = yes same n (wrote_of e ++ xs) ∙ ap (λ ys. times n psn ++ ys) (head xs ∙ ap (λ b. if b then psn ∷ psns_at own place xs else psns_at own place xs) same) ∙ times-more n psn (psns_at own place xs)
+    yes same (suc n) xs = yes same n (wrote_of e ++ xs) ∙ ap (λ ys. replicate n psn ++ ys) (head xs ∙ ap (λ b. if b then psn ∷ psns_at own place xs else psns_at own place xs) same) ∙ replicate-more n psn (psns_at own place xs)
 
     no : (x == place) ≡ false → (n : ℕ) (xs : List Wrote) → psns_at own place (wrote_onto e n xs) ≡ psns_at own place xs
     no other zero xs = refl
     no other (suc n) xs = no other n (wrote_of e ++ xs) ∙ head xs ∙ ap (λ b. if b then psn ∷ psns_at own place xs else psns_at own place xs) other
 
-    by : (b : Bool) → (x == place) ≡ b → psns_at own place (wrote_onto e n xs) ≡ (if b then times n psn else []) ++ psns_at own place xs
+    by : (b : Bool) → (x == place) ≡ b → psns_at own place (wrote_onto e n xs) ≡ (if b then replicate n psn else []) ++ psns_at own place xs
     by true same = yes same n xs
     by false other = no other n xs

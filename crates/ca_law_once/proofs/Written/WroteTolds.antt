@@ -1,5 +1,5 @@
 -- The packets that wrote, and those that a link accepted, after an event. For proofs only.
-use Rattle.std.proofs.Common.{◌≡◌, ℕ, zero, suc, ◌+◌, ◌%◌, ◌^◌, ◌<◌, ◌==◌, ◌&&◌, ◌++◌, ◌⊎◌, inl, inr, arith, Bool, true, false, if◌then◌else◌, length, map, List, [], ◌∷◌, Option, None, Some, Result, Ok, Err, is_some, slice_get, refl, ap, ap₂, sym, subst, ◌∙◌, true≢false}
+use Rattle.std.proofs.Common.{◌≡◌, ℕ, zero, suc, ◌+◌, ◌%◌, ◌^◌, ◌<◌, ◌==◌, ◌&&◌, ◌++◌, ◌⊎◌, inl, inr, arith, Bool, true, false, if◌then◌else◌, length, map, List, [], ◌∷◌, Option, None, Some, Result, Ok, Err, is_some, slice_get, refl, ap, ap₂, sym, subst, ◌∙◌, true≢false, replicate}
 use Rattle.std.proofs.lemmas.Bool.{and_parts, eqb-true}
 use Rattle.std.proofs.lemmas.Option.{same_Some}
 use Rattle.std.specs.Option.{option_map_or}
@@ -34,7 +34,6 @@ use Rattle.ca_law_once.proofs.Ties.EntryLemmas.{EntryIs, IsLent, entry-at, lent-
 use Rattle.ca_law_once.specs.Ties.{AreEntries, ReceiverTie, TiedAfter, written_by_delivery, written_by_entry}
 use Rattle.ca_law_once.specs.Ties.ReceiverTie.{before as receiver_before, standing as receiver_standing, gone as receiver_gone}
 use Rattle.ca_law_once.specs.Entries.{SpellsRequest, SpellsSomeResponse}
-use Rattle.ca_law_once.specs.Links.{times}
 use Rattle.ca_law_once.specs.Moves.{writes_told}
 use Rattle.ca_law_once.specs.Agrees.{acted_by, written_by}
 use Rattle.ca_law_once.proofs.Written.MarkLemmas.{MetAll, met-wrote, onto-none, onto-other, onto-own, unmet-wrote, wrote_onto}
@@ -76,9 +75,9 @@ map-append : (xs ys : List ℕ) → map psn_bits (xs ++ ys) ≡ map psn_bits xs 
 map-append [] ys = refl
 map-append (x ∷ xs) ys = ap (λ zs. psn_bits x ∷ zs) (map-append xs ys)
 
-map-times : (n x : ℕ) → map psn_bits (times n x) ≡ times n (psn_bits x)
-map-times zero x = refl
-map-times (suc n) x = ap (λ zs. psn_bits x ∷ zs) (map-times n x)
+map-replicate : (n x : ℕ) → map psn_bits (replicate n x) ≡ replicate n (psn_bits x)
+map-replicate zero x = refl
+map-replicate (suc n) x = ap (λ zs. psn_bits x ∷ zs) (map-replicate n x)
 
 pub wrote-delivered : (d : Direction) (s r : Correspondent) (past : Past) (w v : World) (l : Link) (event : Event) (name : QueueId) (index : ℕ) (ms : List Mark) (acted : ℕ → List ℕ) (ws : Writes)
     (after : TiedAfter d s r w l acted (written_by_delivery r w l name index ms) v)
@@ -143,7 +142,7 @@ wrote-delivered d s r past w v l event name index ms acted ws after told agree d
     -- the packet of one of its requests was delivered
     changed : (x : RequestPacket) → queue_eq name r.queue ≡ true → slice_get l.requests k ≡ Some (Some x) → correspondent_eq e.source s ≡ true → Goal
     changed x is at mine = onto-own s place x.place e n ws.wrote mine (entry-sent s l.requests (past.envelopes r.queue) k (Some x) e told.sources at (here is)).1
-        ∙ ap (λ ys. (if x.place == place then times n (psn_in e.bytes) else []) ++ ys) (before place) ∙ of (is_write (d.work place)) refl
+        ∙ ap (λ ys. (if x.place == place then replicate n (psn_in e.bytes) else []) ++ ys) (before place) ∙ of (is_write (d.work place)) refl
       where
         lent : IsLent index (w.mailbox name) delivers.bytes
         lent = lent-envelope index (w.mailbox name) delivers.bytes delivers.lent
@@ -166,24 +165,24 @@ wrote-delivered d s r past w v l event name index ms acted ws after told agree d
             of_tie (receiver_standing t paired own entries) = subst (λ o. EntryIs (SpellsRequest d) SpellsSomeResponse o lent.envelope.bytes) at
                 (entry-at (SpellsRequest d) SpellsSomeResponse (w.mailbox r.queue).envelopes l.requests k lent.envelope entries at_r)
 
-        same_psns : times n (psn_in e.bytes) ≡ times n (psn_bits x.number)
+        same_psns : replicate n (psn_in e.bytes) ≡ replicate n (psn_bits x.number)
         same_psns = told_by all.packet
           where
-            told_by : (writes_told delivers.rest ≡ 0) ⊎ (is_some (packet_of e.bytes) ≡ true) → times n (psn_in e.bytes) ≡ times n (psn_bits x.number)
-            told_by (inl none) = ap (λ (m : ℕ). times m (psn_in e.bytes)) (sym same_count ∙ none) ∙ sym (ap (λ (m : ℕ). times m (psn_bits x.number)) (sym same_count ∙ none))
-            told_by (inr some) = ap (times n) (packet-psn d x e.bytes spells some)
+            told_by : (writes_told delivers.rest ≡ 0) ⊎ (is_some (packet_of e.bytes) ≡ true) → replicate n (psn_in e.bytes) ≡ replicate n (psn_bits x.number)
+            told_by (inl none) = ap (λ (m : ℕ). replicate m (psn_in e.bytes)) (sym same_count ∙ none) ∙ sym (ap (λ (m : ℕ). replicate m (psn_bits x.number)) (sym same_count ∙ none))
+            told_by (inr some) = ap (replicate n) (packet-psn d x e.bytes spells some)
 
         new : List ℕ
-        new = if x.place == place then times n x.number else []
+        new = if x.place == place then replicate n x.number else []
 
         new_is : written_by_delivery r w l name index ms place ≡ new
         new_is = written-here is (Some (Some x)) at
 
-        bits : (b : Bool) → (if b then times n (psn_in e.bytes) else []) ≡ map psn_bits (if b then times n x.number else [])
-        bits true = same_psns ∙ sym (map-times n x.number)
+        bits : (b : Bool) → (if b then replicate n (psn_in e.bytes) else []) ≡ map psn_bits (if b then replicate n x.number else [])
+        bits true = same_psns ∙ sym (map-replicate n x.number)
         bits false = refl
 
-        of : (b : Bool) → is_write (d.work place) ≡ b → (if x.place == place then times n (psn_in e.bytes) else []) ++ (if b then map psn_bits (numbers_at place l.acceptances) else [])
+        of : (b : Bool) → is_write (d.work place) ≡ b → (if x.place == place then replicate n (psn_in e.bytes) else []) ++ (if b then map psn_bits (numbers_at place l.acceptances) else [])
             ≡ (if b then map psn_bits (numbers_at place after.link.acceptances) else [])
         of true write = ap (λ ys. ys ++ map psn_bits (numbers_at place l.acceptances)) (bits (x.place == place)) ∙ sym (map-append new (numbers_at place l.acceptances))
             ∙ ap (map psn_bits) (sym (after.wrote place write ∙ ap (λ ns. ns ++ numbers_at place l.acceptances) new_is))

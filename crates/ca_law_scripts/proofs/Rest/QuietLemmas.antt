@@ -24,7 +24,7 @@ use Rattle.ca_law_world.specs.Steady.{IsSteadyWorld}
 use Rattle.ca_law_scripts.specs.Rest.{AcceptsPeers, IsAtRest}
 use Rattle.ca_script.specs.Script.{ScriptValue}
 use Rattle.ca_model_places.specs.Turns.{hasten_at, lot_at}
-use Rattle.ca_model_places.specs.declared.turn.Turn.TheVariants as turns
+use Rattle.ca_base.specs.declared.step.Turn.TheVariants as turns
 
 -- ---- a configured queue pair is among all
 

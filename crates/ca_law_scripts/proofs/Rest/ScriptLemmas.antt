@@ -37,8 +37,8 @@ use Rattle.ca_script_lines.specs.declared.Line.{Line}
 use Rattle.ca_script_lines.specs.declared.what.What.{What}
 use Rattle.ca_script_lines.specs.declared.what.What.TheVariants as whats
 use Rattle.ca_model_places.specs.Turns.{hasten_at, lot_at}
-use Rattle.ca_model_places.specs.declared.turn.Turn.{Turn}
-use Rattle.ca_model_places.specs.declared.turn.Turn.TheVariants as turns
+use Rattle.ca_base.specs.declared.step.Turn.{Turn}
+use Rattle.ca_base.specs.declared.step.Turn.TheVariants as turns
 
 -- a world that comes up: what laws say of it, and a past that agrees with it on paths
 record IsWorldUp (c : Configuration) (w : World) : Type 0 where

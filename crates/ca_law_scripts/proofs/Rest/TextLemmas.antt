@@ -1,5 +1,6 @@
 -- What a script's text gives: a configuration within the limits, and lines whose verbs can be made. For proofs only.
-use Rattle.std.proofs.Common.{◌≡◌, ℕ, zero, suc, ◌+◌, ◌==◌, ◌&&◌, ◌≤◌, Bool, true, false, not, nat_le, nat_lt, if◌then◌else◌, List, [], ◌∷◌, ◌++◌, ◌-◌, drop, length, replicate, Result, Ok, Err, refl, ap, subst, arith}
+use Rattle.std.proofs.Common.{◌≡◌, ℕ, zero, suc, ◌+◌, ◌==◌, ◌&&◌, ◌≤◌, Bool, true, false, not, nat_le, nat_lt, if◌then◌else◌, List, [], ◌∷◌, ◌++◌, ◌-◌, drop, length, replicate, Result, Ok, Err, refl, ap, subst, sym, arith}
+use Rattle.std.proofs.lemmas.Bool.{leb-true}
 use Rattle.std.proofs.lemmas.Bool.Decides.{nat_tests}
 use Rattle.std.proofs.lemmas.List.{length-append, length-replicate}
 use Rattle.std.specs.List.{AllByRecursion, list_all}
@@ -56,16 +57,16 @@ field-gives {Y} P reader gives (w ∷ ws) = by (reader w) (gives w)
 
 -- ---- words
 
-number-gives : (low high : ℕ) (w : List ℕ) → Gives (λ n. n ≤ high) (number low high w)
+number-gives : (low high : ℕ) (w : List ℕ) → Gives (λ n. (low ≤ n) × (n ≤ high)) (number low high w)
 unfolding number limited
-number-gives low high w = by (is_number w) (nat_le low (value_of w)) (nat_le (value_of w) high) refl
+number-gives low high w = by (is_number w) (nat_le low (value_of w)) (nat_le (value_of w) high) refl refl
   where
-    by : (is above below : Bool) → nat_le (value_of w) high ≡ below
-        → Gives (λ n. n ≤ high) (if is then if above && below then Ok (value_of w) else Err causes.OutOfLimit else Err causes.BadNumber)
-    by true true true so = grind (arith, nat_tests, so)
-    by true true false so = record {}
-    by true false below so = record {}
-    by false above below so = record {}
+    by : (is above below : Bool) → nat_le low (value_of w) ≡ above → nat_le (value_of w) high ≡ below
+        → Gives (λ n. (low ≤ n) × (n ≤ high)) (if is then if above && below then Ok (value_of w) else Err causes.OutOfLimit else Err causes.BadNumber)
+    by true true true least most = (leb-true low (value_of w) least, leb-true (value_of w) high most)
+    by true true false least most = record {}
+    by true false below least most = record {}
+    by false above below least most = record {}
 
 each-gives : {Y : Type 0} (reader : List ℕ → Result Y ScriptCause) (ws : Words) → Gives (λ xs. length xs ≡ length ws) (each reader ws)
 each-gives reader [] = refl
@@ -99,7 +100,7 @@ pieces-gives w = by (bytes_eq w dash) (not (list_all is_piece (pieces 44 w))) (n
 
 -- what holds of the value of a word
 abbrev IsRead : (kind : Kind) → ValueOf kind → Type 0
-IsRead (Number low high) n = n ≤ high
+IsRead (Number low high) n = (low ≤ n) × (n ≤ high)
 IsRead (Optional high) x = Unit {0}
 IsRead OfDomain x = Unit {0}
 IsRead OfSlot x = Unit {0}
@@ -304,11 +305,11 @@ lines-give = (
 
 -- what a setup line says is within the limits
 abbrev IsLimitedSetting : Setting → Type 0
-IsLimitedSetting (settings.Adapters n) = n ≤ MAX_ADAPTERS
-IsLimitedSetting (settings.Buffer a n) = n ≤ MAX_BUFFER_BYTES
+IsLimitedSetting (settings.Adapters n) = (1 ≤ n) × (n ≤ MAX_ADAPTERS)
+IsLimitedSetting (settings.Buffer a n) = (1 ≤ n) × (n ≤ MAX_BUFFER_BYTES)
 IsLimitedSetting (settings.Slots a c) =
-    (c.domains ≤ MAX_DOMAINS) × (c.regions ≤ MAX_REGIONS) × (c.windows ≤ MAX_WINDOWS) × (c.cqs ≤ MAX_CQS) × (c.srqs ≤ MAX_SRQS) × (c.qps ≤ MAX_QPS)
-IsLimitedSetting (settings.Events n) = n ≤ MAX_EVENTS
+    ((1 ≤ c.domains) × (c.domains ≤ MAX_DOMAINS)) × (c.regions ≤ MAX_REGIONS) × (c.windows ≤ MAX_WINDOWS) × (c.cqs ≤ MAX_CQS) × (c.srqs ≤ MAX_SRQS) × (c.qps ≤ MAX_QPS)
+IsLimitedSetting (settings.Events n) = (1 ≤ n) × (n ≤ MAX_EVENTS)
 IsLimitedSetting (settings.Seed seed) = Unit {0}
 IsLimitedSetting (settings.Listed line) = Unit {0}
 
@@ -324,7 +325,7 @@ setup-gives last = (
   (
     λ a is n few. few,
     (
-      λ a is domains d regions r windows w cqs c srqs s qps q. (d, r, w, c, s, q),
+      λ a is domains d regions r windows w cqs c srqs s qps q. (d, r.1, w.1, c.1, s.1, q.1),
       (
         λ n few. few,
         (
@@ -344,7 +345,9 @@ AreLimitedAdapters adapters = AllByRecursion IsLimitedAdapter adapters
 plain-limited : IsLimitedAdapter plain_adapter
 plain-limited = record {
   buffers = omega arith;
+  least_bytes = record {};
   bytes = record {};
+  least_domains = omega arith;
   domains = omega arith;
   regions = omega arith;
   windows = omega arith;
@@ -357,16 +360,18 @@ all-plain : (n : ℕ) → AreLimitedAdapters (replicate n plain_adapter)
 all-plain zero = record {}
 all-plain (suc n) = (plain-limited, all-plain n)
 
-all-behind : (ns : List ℕ) (n : ℕ) → AllByRecursion (λ bytes. bytes ≤ MAX_BUFFER_BYTES) ns → n ≤ MAX_BUFFER_BYTES → AllByRecursion (λ bytes. bytes ≤ MAX_BUFFER_BYTES) (ns ++ n ∷ [])
-all-behind [] n all few = (few, record {})
-all-behind (m ∷ ns) n all few = (all.0, all-behind ns n all.1 few)
+all-behind : (P : ℕ → Type 0) (ns : List ℕ) (n : ℕ) → AllByRecursion P ns → P n → AllByRecursion P (ns ++ n ∷ [])
+all-behind P [] n all is = (is, record {})
+all-behind P (m ∷ ns) n all is = (all.0, all-behind P ns n all.1 is)
 
-buffer-limited : (k n : ℕ) (adapters : List Adapter) → n ≤ MAX_BUFFER_BYTES → has_buffer_left k adapters ≡ true → AreLimitedAdapters adapters → AreLimitedAdapters (with_adapter k (with_buffer n) adapters)
+buffer-limited : (k n : ℕ) (adapters : List Adapter) → (1 ≤ n) × (n ≤ MAX_BUFFER_BYTES) → has_buffer_left k adapters ≡ true → AreLimitedAdapters adapters → AreLimitedAdapters (with_adapter k (with_buffer n) adapters)
 buffer-limited k n [] few room all = record {}
 buffer-limited zero n (a ∷ rest) few room all = (
   record {
     buffers = grind (arith, nat_tests, room, length-append a.buffers (n ∷ []));
-    bytes = all-behind a.buffers n all.0.bytes few;
+    least_bytes = all-behind (λ bytes. 1 ≤ bytes) a.buffers n all.0.least_bytes few.0;
+    bytes = all-behind (λ bytes. bytes ≤ MAX_BUFFER_BYTES) a.buffers n all.0.bytes few.1;
+    least_domains = all.0.least_domains;
     domains = all.0.domains;
     regions = all.0.regions;
     windows = all.0.windows;
@@ -383,8 +388,10 @@ slots-limited k c [] few all = record {}
 slots-limited zero c (a ∷ rest) few all = (
   record {
     buffers = all.0.buffers;
+    least_bytes = all.0.least_bytes;
     bytes = all.0.bytes;
-    domains = few.0;
+    least_domains = few.0.0;
+    domains = few.0.1;
     regions = few.1;
     windows = few.2;
     cqs = few.3;
@@ -406,34 +413,40 @@ IsLimitedSetup s = AreLimited (record { adapters = s.adapters; events = s.events
 
 -- within the limits of each adapter, and of events
 record IsLimitedInPart (s : Setup) : Type 0 where
-  count : length s.adapters ≤ MAX_ADAPTERS
+  count : (1 ≤ length s.adapters) × (length s.adapters ≤ MAX_ADAPTERS)
   adapters : AreLimitedAdapters s.adapters
-  events : s.events ≤ MAX_EVENTS
+  events : (1 ≤ s.events) × (s.events ≤ MAX_EVENTS)
 
 setting-limited : (setting : Setting) (s : Setup) → IsLimitedSetting setting → IsLimitedSetup s → has_room_for setting s ≡ true → IsLimitedInPart (after_setting setting s)
-setting-limited (settings.Adapters n) s few limited room = record { count = omega (arith, few, length-replicate n plain_adapter); adapters = all-plain n; events = limited.events }
+setting-limited (settings.Adapters n) s few limited room = record {
+  count = subst (λ k. (1 ≤ k) × (k ≤ MAX_ADAPTERS)) (sym (length-replicate n plain_adapter)) few;
+  adapters = all-plain n;
+  events = (limited.least_events, limited.events);
+}
 setting-limited (settings.Buffer a n) s few limited room = record {
-  count = omega (arith, limited.count, as-many a (with_buffer n) s.adapters);
+  count = subst (λ k. (1 ≤ k) × (k ≤ MAX_ADAPTERS)) (sym (as-many a (with_buffer n) s.adapters)) (limited.least_count, limited.count);
   adapters = buffer-limited a n s.adapters few room limited.adapters;
-  events = limited.events;
+  events = (limited.least_events, limited.events);
 }
 setting-limited (settings.Slots a c) s few limited room = record {
-  count = omega (arith, limited.count, as-many a (with_slots c) s.adapters);
+  count = subst (λ k. (1 ≤ k) × (k ≤ MAX_ADAPTERS)) (sym (as-many a (with_slots c) s.adapters)) (limited.least_count, limited.count);
   adapters = slots-limited a c s.adapters few limited.adapters;
-  events = limited.events;
+  events = (limited.least_events, limited.events);
 }
-setting-limited (settings.Events n) s few limited room = record { count = limited.count; adapters = limited.adapters; events = few }
-setting-limited (settings.Seed seed) s few limited room = record { count = limited.count; adapters = limited.adapters; events = limited.events }
-setting-limited (settings.Listed line) s few limited room = record { count = limited.count; adapters = limited.adapters; events = limited.events }
+setting-limited (settings.Events n) s few limited room = record { count = (limited.least_count, limited.count); adapters = limited.adapters; events = few }
+setting-limited (settings.Seed seed) s few limited room = record { count = (limited.least_count, limited.count); adapters = limited.adapters; events = (limited.least_events, limited.events) }
+setting-limited (settings.Listed line) s few limited room = record { count = (limited.least_count, limited.count); adapters = limited.adapters; events = (limited.least_events, limited.events) }
 
 whole-limited : (s : Setup) → IsLimitedInPart s → is_within_limits s ≡ true → IsLimitedSetup s
 unfolding is_within_limits
 whole-limited s part within = record {
-  count = part.count;
+  least_count = part.count.0;
+  count = part.count.1;
   adapters = part.adapters;
   bytes = grind (arith, nat_tests, within);
   parts = grind (arith, nat_tests, within);
-  events = part.events;
+  least_events = part.events.0;
+  events = part.events.1;
 }
 
 after-setting-gives : (setting : Setting) (s : Setup) → IsLimitedSetting setting → IsLimitedSetup s → Gives IsLimitedSetup (within_limits (has_room_for setting s) (after_setting setting s))
@@ -495,10 +508,12 @@ all-give number room d (line ∷ lines) good = gives-if IsGood (nat_lt room (siz
 
 opening-limited : IsLimitedSetup opening
 opening-limited = record {
+  least_count = omega arith;
   count = omega arith;
   adapters = (plain-limited, record {});
   bytes = omega arith;
   parts = omega arith;
+  least_events = omega arith;
   events = omega arith;
 }
 

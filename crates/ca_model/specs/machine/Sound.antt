@@ -24,10 +24,13 @@ use Rattle.ca_model.specs.machine.Step.{bytes_of_buffer}
 use Rattle.ca_model.specs.machine.World.{World, Name, Domain_of, Region_of, Window_of, Cq_of, Srq_of, Queue_of, Mailbox_of, Byte_at, Thing, get}
 use Rattle.ca_model.specs.machine.Invariants.{IsCompletionQueue, IsDomain, IsMailbox, IsQueue, IsSharedReceives, IsWindow}
 
--- an adapter within the limits: its buffers, its domains, and the slots of each kind in a domain
+-- an adapter within the limits: its buffers, of which none is empty, its domains, of which it has one at least, and the slots
+-- of each kind in a domain
 pub record IsLimitedAdapter (a : Adapter) : Type 0 where
   pub buffers : length a.buffers ≤ MAX_BUFFERS
+  pub least_bytes : AllByRecursion (λ bytes. 1 ≤ bytes) a.buffers
   pub bytes : AllByRecursion (λ bytes. bytes ≤ MAX_BUFFER_BYTES) a.buffers
+  pub least_domains : 1 ≤ a.domains
   pub domains : a.domains ≤ MAX_DOMAINS
   pub regions : a.regions ≤ MAX_REGIONS
   pub windows : a.windows ≤ MAX_WINDOWS
@@ -35,12 +38,15 @@ pub record IsLimitedAdapter (a : Adapter) : Type 0 where
   pub srqs : a.srqs ≤ MAX_SRQS
   pub qps : a.qps ≤ MAX_QPS
 
--- a configuration within the limits: its adapters, the bytes of all buffers together, its parts, and its events
+-- a configuration within the limits: its adapters, of which it has one at least, the bytes of all buffers together, its
+-- parts, and its events, of which it allows one at least
 pub record AreLimited (c : Configuration) : Type 0 where
+  pub least_count : 1 ≤ length c.adapters
   pub count : length c.adapters ≤ MAX_ADAPTERS
   pub adapters : AllByRecursion IsLimitedAdapter c.adapters
   pub bytes : sum_by (λ a. sum_by (λ bytes. bytes) a.buffers) c.adapters ≤ MAX_TOTAL_BYTES
   pub parts : part_count c ≤ MAX_PARTS
+  pub least_events : 1 ≤ c.events
   pub events : c.events ≤ MAX_EVENTS
 
 -- runs lie in this buffer, which has so many bytes

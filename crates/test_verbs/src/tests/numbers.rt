@@ -3,9 +3,10 @@ ghost use Rattle.test_fixture_fabric.specs.ca_verbs.Passes.{IsOf};
 
 use crate::tests::beds::{BUFFER_BYTES, config, is, is_made, join_to, started, upper_half};
 use arrayvec::ArrayVec;
-use ca_base::{DomainId, Key, Piece, QueueId, SendOp, SendRequest, Slot, Verdict, first_address};
+use ca_base::{
+    DomainId, Key, Piece, QueueId, SendOp, SendRequest, Slot, Turn, Verdict, first_address,
+};
 use ca_model::{Answer, Entry, Mark, Verb};
-use ca_model_places::Turn;
 use std::process::Abort;
 use std::sync::Wait;
 use std::thread::{Threads, join};

@@ -1,9 +1,8 @@
 use crate::tests::beds::{config, is, is_made, started};
 use arrayvec::ArrayVec;
-use ca_base::{AdapterConfig, Config, DomainId, QueueId, Reason, Slot};
+use ca_base::{AdapterConfig, Config, DomainId, QueueId, Reason, Slot, Turn};
 use ca_mailbox::Weather;
 use ca_model::Verb;
-use ca_model_places::Turn;
 use std::alloc::Global;
 use std::process::Abort;
 use test_fixture_fabric::ca_verbs::{Fabric, Receipt, StartError, TryError};
@@ -112,6 +111,48 @@ fn the_most_parts_start_and_one_more_does_not(rt: HostRuntime) {
     assert!(rt; matches!(beyond, Some(StartError::BadConfig)));
 }
 
+// One adapter of so many domains and a buffer of so many bytes, for so many events.
+fn one_adapter(domains: u8, bytes: u32, events: u32) -> Config {
+    let mut config = Config {
+        adapters: ArrayVec::new(),
+        events,
+    };
+    let mut adapter = AdapterConfig {
+        buffers: ArrayVec::new(),
+        domains,
+        regions: 0,
+        windows: 0,
+        cqs: 0,
+        srqs: 0,
+        qps: 0,
+    };
+    let _fits = adapter.buffers.try_push(bytes);
+    let _fits = config.adapters.try_push(adapter);
+    config
+}
+
+#[test]
+fn the_least_numbers_start_and_none_is_refused(rt: HostRuntime) {
+    let least = refusal_of(rt.alloc(), one_adapter(1, 1, 1));
+    assert!(rt; matches!(least, None));
+    let no_adapter = Config {
+        adapters: ArrayVec::new(),
+        events: 3,
+    };
+    assert!(rt;
+        matches!(
+            refusal_of(rt.alloc(), no_adapter),
+            Some(StartError::BadConfig)
+        )
+    );
+    let no_domain = refusal_of(rt.alloc(), one_adapter(0, 4096, 3));
+    assert!(rt; matches!(no_domain, Some(StartError::BadConfig)));
+    let no_bytes = refusal_of(rt.alloc(), one_adapter(1, 0, 3));
+    assert!(rt; matches!(no_bytes, Some(StartError::BadConfig)));
+    let no_events = refusal_of(rt.alloc(), one_adapter(1, 4096, 0));
+    assert!(rt; matches!(no_events, Some(StartError::BadConfig)));
+}
+
 #[test]
 fn a_history_of_three_entries_is_full(rt: HostRuntime) {
     let open = open();
@@ -121,6 +162,21 @@ fn a_history_of_three_entries_is_full(rt: HostRuntime) {
     is_made(&rt, fabric.try_verb(&mut pass, 0, &open).is_ok());
     let tried = fabric.try_verb(&mut pass, 0, &open);
     is(&rt, "the history", full_at(tried), 3);
+    let called = fabric.verb(&rt, &mut pass, 0, &open);
+    is(
+        &rt,
+        "the history, of a call that may wait",
+        full_at(called),
+        3,
+    );
+    let due = Turn::Due(QueueId::of_slot(SLOT));
+    let turned = fabric.turn(&rt, &mut pass, due, &Weather::Calm);
+    is(
+        &rt,
+        "the history, of a turn that may wait",
+        full_at(turned),
+        3,
+    );
     drop(fabric);
     drop(pass);
 }

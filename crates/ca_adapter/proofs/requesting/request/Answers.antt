@@ -2,7 +2,7 @@ use Rattle.std.proofs.Common.{◌≡◌, ◌∙◌, refl, sym, ap, subst, Err, t
 use Rattle.ca_adapter_acts.specs.Act.{IsAct}
 use Rattle.ca_adapter_acts.specs.Room.{FitsDone}
 use Rattle.ca_base.specs.Configuration.{configuration_in}
-use Rattle.ca_base.specs.declared.step.StepError.TheVariants as steps
+use Rattle.ca_base.specs.declared.step.ActError.TheVariants as steps
 use Rattle.ca_base.specs.objects.QueuePair.{Present}
 use Rattle.ca_base.specs.objects.Slices.{has_queue}
 use Rattle.ca_adapter_parts.specs.HeldView.{holding}

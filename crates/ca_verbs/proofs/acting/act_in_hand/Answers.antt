@@ -24,7 +24,7 @@ pub returns-in-Ok-clause-made : goal.returns-in-Ok-clause-made
 returns-in-Ok-clause-made c = λ first took before. acted.made-of _ _ _ first _ _ _ _ c.requires.holding took c.requires.made c.requires.event
     _ c.in-Ok.marks (acted.own-key _ _ c.args.event.now (Ok c.in-Ok.marks) c.args.held.now c.act.new.held c.settings.ensures c.in-Ok.ensures.act) (acted.steps-key _ _ c.args.event.now (Ok c.in-Ok.marks) c.args.held.now c.act.new.held c.settings.ensures c.in-Ok.ensures.step)
     _ (acted.shown-key _ _ _ _ _ _ c.settings.ensures c.as_slice.ensures.value c.unpack.ensures.shown) _ _ _ c.mark-stamp.ensures.added c.mark-stamp.ensures.sees
-    c.give_all.ensures.same.0 c.give_all.ensures.same.1.1 before
+    c.give_all.ensures.same.0 c.give_all.ensures.same.1.0 c.give_all.ensures.same.1.1 before
 
 pub returns-in-Err-clause-kept : goal.returns-in-Err-clause-kept
 returns-in-Err-clause-kept c = λ first took. subst (λ e. WasNotMade (settings_of c.args.parts.now) (asked_of c.args.ask) e first (view_of c.put_back.new.pass)) (sym c.refusal.ensures)

@@ -15,6 +15,6 @@ loop-t-preserved c = let inv = c.loop-t.invariant in let t = c.in-Some.t in let 
       of = c.give.ensures.of;
       hand = ap (λ v. v.hand) gave ∙ (ap (λ h. without t.part h) (inv.hand ∙ last) ∙ without-last t.part t.value (hand_of rest) (apart-last (hand_of c.loop-t.out.items) (hand_of rest) (t.part, t.value) last inv.apart));
       apart = apart-before (hand_of c.loop-t.out.items) (hand_of rest) (t.part, t.value) last inv.apart;
-      same = (ap (λ v. v.share) gave ∙ inv.same.0, ap (λ v. v.entries) gave ∙ inv.same.1);
+      same = ((ap (λ v. v.share) gave ∙ inv.same.0.0, ap (λ v. v.passes) gave ∙ inv.same.0.1), ap (λ v. v.entries) gave ∙ inv.same.1);
       notes = (ap (λ v. v.notes) gave ∙ inv.notes.0, ap (λ v. v.refused) gave ∙ inv.notes.1);
     }

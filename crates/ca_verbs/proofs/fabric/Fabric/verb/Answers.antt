@@ -1,4 +1,4 @@
-use Rattle.std.proofs.Common.{subst}
+use Rattle.std.proofs.Common.{◌∙◌, subst}
 use Rattle.ca_verbs_machine.specs.declared.asked.Asked.TheVariants as asks
 use Rattle.ca_model.specs.declared.event.Event.TheVariants as events
 use Rattle.ca_verbs.specs.Passes.{known_of, settings_in}
@@ -9,6 +9,7 @@ pub returns-in-Err-HistoryFull-clause-refused : goal.returns-in-Err-HistoryFull-
 returns-in-Err-HistoryFull-clause-refused g c = record {
   last = c.loop.pass;
   same = c.loop.invariant.same;
+  kept = c.in-Err-HistoryFull.ensures.same.2 ∙ c.loop.invariant.kept;
   not_busy = record {};
   cause = subst (λ e. WasNotMade (settings_in c.args.self.now) (asks.Event (events.Verb c.args.by c.args.v.now)) e (known_of c.loop.pass) (known_of c.try_verb.new.pass)) c.in-Err-HistoryFull.field-0-is c.in-Err-HistoryFull.ensures.not_made;
 }
@@ -17,6 +18,7 @@ pub returns-in-Err-NotReady-clause-refused : goal.returns-in-Err-NotReady-clause
 returns-in-Err-NotReady-clause-refused g c = record {
   last = c.loop.pass;
   same = c.loop.invariant.same;
+  kept = c.in-Err-NotReady.ensures.same.2 ∙ c.loop.invariant.kept;
   not_busy = record {};
   cause = subst (λ e. WasNotMade (settings_in c.args.self.now) (asks.Event (events.Verb c.args.by c.args.v.now)) e (known_of c.loop.pass) (known_of c.try_verb.new.pass)) c.in-Err-NotReady.field-0-is c.in-Err-NotReady.ensures.not_made;
 }
@@ -25,6 +27,7 @@ pub returns-in-Err-Memory-clause-refused : goal.returns-in-Err-Memory-clause-ref
 returns-in-Err-Memory-clause-refused g c = record {
   last = c.loop.pass;
   same = c.loop.invariant.same;
+  kept = c.in-Err-Memory.ensures.same.2 ∙ c.loop.invariant.kept;
   not_busy = record {};
   cause = subst (λ e. WasNotMade (settings_in c.args.self.now) (asks.Event (events.Verb c.args.by c.args.v.now)) e (known_of c.loop.pass) (known_of c.try_verb.new.pass)) c.in-Err-Memory.field-0-is c.in-Err-Memory.ensures.not_made;
 }

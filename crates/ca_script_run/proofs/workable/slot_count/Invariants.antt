@@ -1,8 +1,7 @@
 use Rattle.std.proofs.Common.{◌≡◌, ◌*◌, ◌^◌, ◌≤◌, map, sum_by, take}
 use Rattle.ca_base.specs.Configuration.{adapter_of}
-use Rattle.ca_verbs.proofs.limits.byte_count.Given as goal
+use Rattle.ca_script_run.proofs.workable.slot_count.Given as goal
 
 abbrev pub invariant-loop-adapter : goal.invariant-loop-adapter
 invariant-loop-adapter l =
-    (l.count ≡ sum_by (λ a. sum_by (λ bytes. bytes) a.buffers) (map adapter_of (take l.adapter-index l.adapters)))
-    × (l.count ≤ l.adapter-index * 2 ^ 37)
+    (l.count ≡ sum_by (λ a. a.domains * a.qps) (map adapter_of (take l.adapter-index l.adapters))) × (l.count ≤ l.adapter-index * 2 ^ 24)

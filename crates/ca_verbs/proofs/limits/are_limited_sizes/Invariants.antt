@@ -1,9 +1,0 @@
-use Rattle.std.proofs.Common.{◌≤◌, drop}
-use Rattle.std.specs.List.{AllByRecursion}
-use Rattle.ca_base.specs.declared.limits.TheConstants.{MAX_BUFFER_BYTES}
-use Rattle.ca_verbs.proofs.limits.are_limited_sizes.Given as goal
-
-abbrev pub invariant-loop-size : goal.invariant-loop-size
-invariant-loop-size l =
-    (AllByRecursion (λ bytes. bytes ≤ MAX_BUFFER_BYTES) l.sizes → AllByRecursion (λ bytes. bytes ≤ MAX_BUFFER_BYTES) (drop l.size-index l.sizes))
-    × (AllByRecursion (λ bytes. bytes ≤ MAX_BUFFER_BYTES) (drop l.size-index l.sizes) → AllByRecursion (λ bytes. bytes ≤ MAX_BUFFER_BYTES) l.sizes)
